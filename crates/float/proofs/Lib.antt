@@ -1,0 +1,11 @@
+pub mod Classes
+pub mod Pack
+pub mod Closest
+pub mod Narrowing
+pub mod Signs
+pub mod Squares
+pub mod Rooting
+pub mod Examples
+pub mod Near
+pub mod RootNear
+pub mod Quick

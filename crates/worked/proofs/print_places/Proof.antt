@@ -1,0 +1,22 @@
+use borrow.Author.Needs.{needs}
+use Rattle.worked.proofs.print_places.Statement.{statement}
+use Rattle.worked.proofs.print_places.Tie as tie
+
+abbrev Inv-loop : tie.InvT-loop
+Inv-loop fraction unit₀ unit = Unit {0}
+
+abbrev μ-loop : tie.MeasureT-loop
+μ-loop fraction unit₀ unit = unit
+
+pub print-places-spec : {M : Type 1} → statement M
+print-places-spec =
+    tie.close
+    (tie.spec
+    Inv-loop
+    μ-loop
+    (λ c. search needs)
+    (λ c. search needs)
+    (λ c κs. search needs)
+    (λ c. search needs)
+    (λ c. search needs)
+    (λ c. search needs))

@@ -1,0 +1,68 @@
+//! Compares the port with the Rust that it was made from, and measures both.
+//! From the folder harness:
+//!
+//! ```text
+//! cargo run --release -- gate     every comparison; status 1 where an area differs
+//! cargo run --release -- roots    the root on all 2^32 patterns
+//! cargo run --release -- speed    CPU time of both sides
+//! cargo run --release -- list     the Rust's answers, for the replay
+//! ```
+//!
+//! ORACLE_SRC names the folder of the Rust's source and PORT_LIB_DIR that of
+//! libentries.a, where they are not in their usual places (see the build
+//! scripts).
+
+mod leaves;
+mod list;
+mod measure;
+mod port;
+mod rng;
+mod tally;
+
+use std::{env, io, process::ExitCode};
+
+/// A name, and comparisons that give false where something differs.
+type Area = (&'static str, fn() -> bool);
+
+/// From the leaves up.
+const AREAS: [Area; 1] = [("leaves", leaves::compare)];
+
+fn main() -> io::Result<ExitCode> {
+    let arguments: Vec<String> = env::args().skip(1).collect();
+    let arguments: Vec<&str> = arguments.iter().map(String::as_str).collect();
+    match arguments[..] {
+        ["gate"] => return Ok(status(gate())),
+        ["roots"] => return Ok(status(leaves::roots::compare_all())),
+        ["speed"] => speed(),
+        ["list"] => list::write(&mut io::stdout().lock())?,
+        _ => {
+            eprintln!("usage: compare gate | roots | speed | list");
+            return Ok(ExitCode::from(2));
+        }
+    }
+    Ok(ExitCode::SUCCESS)
+}
+
+fn status(equal: bool) -> ExitCode {
+    if equal {
+        ExitCode::SUCCESS
+    } else {
+        ExitCode::FAILURE
+    }
+}
+
+/// Stops after the first area that differs.
+fn gate() -> bool {
+    AREAS.iter().all(|(name, compare)| {
+        let equal = compare();
+        if !equal {
+            eprintln!("{name}: the port differs from the Rust");
+        }
+        equal
+    })
+}
+
+fn speed() {
+    measure::print_heading();
+    leaves::speed::measure();
+}

@@ -1,0 +1,83 @@
+//! What the comparisons share: the count of cases with the smallest that
+//! differs, equality of floats, and batches.
+
+use std::fmt::LowerHex;
+
+pub struct Tally<Input> {
+    cases: u64,
+    differing: u64,
+    smallest: Option<(Input, String)>,
+}
+
+impl<Input: Ord> Tally<Input> {
+    pub fn new() -> Self {
+        Tally {
+            cases: 0,
+            differing: 0,
+            smallest: None,
+        }
+    }
+
+    /// Counts one case; `told` is what to print should it be the smallest that
+    /// differs.
+    pub fn count(&mut self, input: Input, equal: bool, told: impl FnOnce(&Input) -> String) {
+        self.cases += 1;
+        if !equal {
+            self.differing += 1;
+            if self
+                .smallest
+                .as_ref()
+                .is_none_or(|(least, _)| input < *least)
+            {
+                let told = told(&input);
+                self.smallest = Some((input, told));
+            }
+        }
+    }
+
+    /// Prints the line of this comparison; true if nothing differs.
+    pub fn report(&self, name: &str, unit: &str, note: &str) -> bool {
+        let (cases, differing) = (self.cases, self.differing);
+        println!("{name}: {cases} {unit}, {differing} differ{note}");
+        if let Some((_, told)) = &self.smallest {
+            println!("  smallest: {told}");
+        }
+        differing == 0
+    }
+}
+
+impl<Input: Ord + LowerHex> Tally<Input> {
+    /// Counts one case whose input is a bit pattern and whose answer is an f32.
+    pub fn count_answer(&mut self, input: Input, rust: f32, port: f32) {
+        let (rust, port) = (one_nan_bits(rust), one_nan_bits(port));
+        self.count(input, rust == port, |input| {
+            let digits = 2 * size_of::<Input>();
+            format!("{input:0digits$x}, Rust {rust:08x}, port {port:08x}")
+        });
+    }
+}
+
+/// The bits of `x`, all NaNs counting as one.
+pub fn one_nan_bits(x: f32) -> u32 {
+    if x.is_nan() {
+        0x7fc0_0000
+    } else {
+        x.to_bits()
+    }
+}
+
+pub const BATCH: usize = 4096;
+
+/// Hands the items on in slices of at most `BATCH`.
+pub fn in_batches<T>(items: impl Iterator<Item = T>, mut work: impl FnMut(&[T])) {
+    let mut items = items.fuse();
+    let mut batch = Vec::with_capacity(BATCH);
+    loop {
+        batch.clear();
+        batch.extend(items.by_ref().take(BATCH));
+        if batch.is_empty() {
+            return;
+        }
+        work(&batch);
+    }
+}
