@@ -7,7 +7,7 @@ ghost use lib.ListN.{length};
 ghost use lib.Ieee.{binary32};
 ghost use Rattle.float.specs.Narrow.{narrowOf};
 ghost use Rattle.float.specs.Sqrt.{sqrtOf};
-ghost use Rattle.turn.specs.Series.{weight};
+ghost use Rattle.turn.specs.Weight.{weight};
 ghost use Rattle.entries.specs.Written.{Wrote};
 
 fn least(a: usize, b: usize) -> usize

@@ -1,3 +1,4 @@
+pub mod ListLaws
 pub mod Listing
 pub mod Posing
 pub mod Worlds
@@ -5,3 +6,8 @@ pub mod Numbers
 pub mod Isolation
 pub mod Demand
 pub mod Starred
+pub mod Walking
+pub mod Counting
+pub mod Paths
+pub mod Placed
+pub mod Small

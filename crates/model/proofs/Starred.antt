@@ -2,7 +2,7 @@
 use mathlib.Core.Path.{refl}
 use mathlib.Core.List.{zipWith}
 use lib.Ieee.{add, sub, mul, div, neg, lt, le, eq, isNan, ofInt, ofBits, round}
-use Rattle.turn.specs.Turn.{weight-of-0, weight-of-1}
+use Rattle.turn.proofs.Turn.{weight-of-0, weight-of-1}
 use Rattle.model.specs.Lists.{foldl, keep, every, anyOf, sumOf, tabulate, indexed}
 use Rattle.model.specs.Vector.{total, dot}
 use Rattle.model.specs.Matrix.{moved}

@@ -5,7 +5,7 @@ use mathlib.Core.Bool.{Bool, not, _&&_}
 use mathlib.Core.Option.{Option, none, some}
 use Prim.Native.Nat.{ℕ, _+_, _*_, _/_, _%_}
 use lib.ListN.{getD, take}
-use lib.Ieee.{Float, eq}
+use lib.Ieee.{Float, nan, eq}
 use lib.Ieee.Scale.{finite}
 use Rattle.float.specs.F32.{_⊕_, _⊖_, _⊗_, _⊘_, zero32, one32}
 use Rattle.model.specs.Lists.{pick, every, tabulate, row}
@@ -16,7 +16,7 @@ Matrix = List Float
 
 -- the number in row i and column j
 abbrev pub entry : Matrix → ℕ → ℕ → Float
-entry m i j = getD m (i * 4 + j) zero32
+entry m i j = getD m (i * 4 + j) nan
 
 abbrev pub column : Matrix → ℕ → Vector
 column m j = entry m 0 j ∷ entry m 1 j ∷ entry m 2 j ∷ entry m 3 j ∷ []

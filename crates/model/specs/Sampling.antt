@@ -5,11 +5,11 @@ use mathlib.Core.Bool.{Bool, true, false, _&&_}
 use mathlib.Core.Option.{Option, none, some}
 use Prim.Native.Nat.{ℕ, zero, suc, _+_, _-_, _*_, _/_, _%_}
 use lib.Dec.{eqb, ltb}
-use lib.Ieee.{Float, neg, lt, eq}
+use lib.Ieee.{Float, nan, neg, lt, eq}
 use lib.Ieee.Scale.{finite}
 use lib.ListN.{length, getD}
 use Rattle.float.specs.F32.{_⊕_, _⊖_, _⊗_, _⊘_, f32, zero32, one32, two32}
-use Rattle.turn.specs.Series.{weight}
+use Rattle.turn.specs.Weight.{weight}
 use Rattle.model.specs.Lists.{pick, row}
 use Rattle.model.specs.Vector.{Vector, _⊙_, _⊞_, over, negated, dot, norm}
 use Rattle.model.specs.Scene.{Kind, vec3s, quats, scalars, Interpolation, step, linear, cubicSpline, Track}
@@ -136,8 +136,8 @@ straight scalars u a b = lerp u a b
 -- the value between keys k and k + 1, by the interpolation
 unfoldable pub interpolated : Track → Interpolation → ℕ → Float → Vector
 interpolated t i k time =
-    let d = getD (t .keys) (suc k) zero32 ⊖ getD (t .keys) k zero32 in
-    let u = (time ⊖ getD (t .keys) k zero32) ⊘ d in
+    let d = getD (t .keys) (suc k) nan ⊖ getD (t .keys) k nan in
+    let u = (time ⊖ getD (t .keys) k nan) ⊘ d in
     go i d u
   where
     go : Interpolation → Float → Float → Vector

@@ -7,7 +7,7 @@ use lib.IntN.{pos}
 use lib.Ieee.{Float, nan, inf, binary32, div, neg, ofInt}
 use mathlib.Core.Bool.{false}
 use lib.ListN.{getD}
-use Rattle.turn.specs.Series.{weight}
+use Rattle.turn.specs.Weight.{weight}
 use Rattle.model.specs.Vector.{Vector}
 use Rattle.model.specs.Matrix.{identity}
 use Rattle.model.specs.Transform.{matrix}
@@ -28,7 +28,6 @@ abbrev pub _per_ : ℕ → ℕ → Float
 n per d = div binary32 (whole n) (whole d)
 
 infixl 80 _per_
-
 -- ---- what a line speaks of
 
 -- a track of one scalar a frame
@@ -43,7 +42,7 @@ listing roots lists = record {
   tracks = [];
   meshes = [];
   skins = [];
-  skeletons = []
+  skeletons = [];
 }
 
 -- one vertex with one coordinate that counts
@@ -59,7 +58,7 @@ stationed = record {
   positions = some (point (whole 4) ∷ []);
   normals = none;
   tangents = none;
-  inBetweens = record { weight = 1 per 2; positions = some (point (whole 1) ∷ []); normals = none } ∷ []
+  inBetweens = record { weight = 1 per 2; positions = some (point (whole 1) ∷ []); normals = none } ∷ [];
 }
 
 -- ---- the lines

@@ -4,7 +4,7 @@ use mathlib.Core.List.{List, [], _∷_, map, zipWith}
 use mathlib.Core.Bool.{Bool, _&&_}
 use mathlib.Core.Option.{Option, none, some}
 use Prim.Native.Nat.{ℕ}
-use lib.Ieee.{Float, binary32, neg, lt}
+use lib.Ieee.{Float, nan, binary32, neg, lt}
 use lib.Ieee.Scale.{finite}
 use lib.ListN.{getD}
 use Rattle.float.specs.F32.{_⊕_, _⊗_, _⊘_, zero32}
@@ -16,9 +16,9 @@ infixl 65 _⊞_
 abbrev pub Vector : Type 0
 Vector = List Float
 
--- component k
+-- component k; one that is not there reads as NaN
 abbrev pub at : Vector → ℕ → Float
-at v k = getD v k zero32
+at v k = getD v k nan
 
 -- a vector times a number, divided by one, and negated
 abbrev pub _⊙_ : Float → Vector → Vector

@@ -35,12 +35,12 @@ impl Tally {
 }
 
 fn digit(b: u8) -> u64
-    ensures { λ r. ⌜ r < 32 ⌝ }
+    ensures { λ r. ⌜ r < 16 ⌝ }
 {
     if b < b'a' {
         return (b % 16) as u64;
     }
-    (b % 16 + 9) as u64
+    ((b % 16 + 9) % 16) as u64
 }
 
 // The digits of `line` from `from` up to `to`, as a number.
@@ -48,7 +48,7 @@ fn hexadecimal(line: &[u8; 28], from: usize, to: usize) -> u64 {
     let mut n: u64 = 0;
     let mut i = from;
     while i < to && i < 28 {
-        n = n % 0x100_0000_0000_0000 * 16 + digit(line[i]);
+        n = n % 0x1000_0000_0000_0000 * 16 + digit(line[i]);
         i += 1;
     }
     n

@@ -57,12 +57,14 @@ impl<Input: Ord + LowerHex> Tally<Input> {
     }
 }
 
-/// The bits of `x`, all NaNs counting as one.
+/// The bits of `x`, all NaNs counting as one. A NaN is told by its bits: the
+/// compiler takes a choice by `is_nan` between a root and NaN for the root alone.
 pub fn one_nan_bits(x: f32) -> u32 {
-    if x.is_nan() {
+    let bits = x.to_bits();
+    if bits & 0x7fff_ffff > 0x7f80_0000 {
         0x7fc0_0000
     } else {
-        x.to_bits()
+        bits
     }
 }
 

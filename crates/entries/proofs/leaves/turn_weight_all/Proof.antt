@@ -2,7 +2,7 @@
 use Prim.Native.Nat.{_-_}
 use mathlib.Core.List.{zipWith}
 use borrow.Author.Needs.{needs}
-use Rattle.turn.specs.Series.{weight}
+use Rattle.turn.specs.Weight.{weight}
 use Rattle.entries.proofs.Filling.{Filled, same-length, inside, done, start-zip, inside-zip, step-zip}
 use Rattle.entries.proofs.leaves.turn_weight_all.Statement.{statement}
 use Rattle.entries.proofs.leaves.turn_weight_all.Tie as tie

@@ -1,0 +1,50 @@
+-- Lengths and entries of lists that are made entry by entry, and a list by its first entries. Assumes nothing.
+use mathlib.Core.Path.{_≡_, refl, sym, ap, _∙_}
+use mathlib.Core.List.{List, [], _∷_, zipWith}
+use Prim.Native.Nat.{ℕ, zero, suc, _+_, _≤_, _<_, min}
+use native.Mathlib.Omega.{arith}
+use lib.ListN.{length, getD, take, drop}
+use lib.Seq.{drop-cons, take-all}
+use Rattle.model.specs.Lists.{tabulate}
+
+pub length-tabulate : {A : Type 0} (n : ℕ) (f : ℕ → A) → length (tabulate n f) ≡ n
+unfolding tabulate
+length-tabulate zero f = refl
+length-tabulate (suc n) f = ap suc (length-tabulate n (λ i. f (suc i)))
+
+pub getD-tabulate : {A : Type 0} (n : ℕ) (f : ℕ → A) (i : ℕ) (d : A) → i < n → getD (tabulate n f) i d ≡ f i
+unfolding tabulate
+getD-tabulate zero f i d h = absurd (omega arith)
+getD-tabulate (suc n) f zero d h = refl
+getD-tabulate (suc n) f (suc i) d h = getD-tabulate n (λ j. f (suc j)) i d (omega arith)
+
+pub length-zip : {A B C : Type 0} (g : A → B → C) (xs : List A) (ys : List B) → length (zipWith g xs ys) ≡ min (length xs) (length ys)
+unfolding zipWith
+length-zip g [] ys = omega arith
+length-zip g (x ∷ xs) [] = omega arith
+length-zip g (x ∷ xs) (y ∷ ys) = omega (arith, length-zip g xs ys)
+
+pub getD-zip : {A B C : Type 0} (g : A → B → C) (xs : List A) (ys : List B) (i : ℕ) (d : A) (e : B) (z : C) → i < length xs → i < length ys → getD (zipWith g xs ys) i z ≡ g (getD xs i d) (getD ys i e)
+unfolding zipWith
+getD-zip g [] ys i d e z h k = absurd (omega arith)
+getD-zip g (x ∷ xs) [] i d e z h k = absurd (omega arith)
+getD-zip g (x ∷ xs) (y ∷ ys) zero d e z h k = refl
+getD-zip g (x ∷ xs) (y ∷ ys) (suc i) d e z h k = getD-zip g xs ys i d e z (omega arith) (omega arith)
+
+-- the entries from the one at i on, n of them, one by one
+unfoldable pub entriesFrom : {A : Type 0} → A → List A → ℕ → ℕ → List A
+entriesFrom d l i zero = []
+entriesFrom d l i (suc n) = getD l i d ∷ entriesFrom d l (suc i) n
+
+pub part-entries : {A : Type 0} (d : A) (l : List A) (i n : ℕ) → i + n ≤ length l → take n (drop i l) ≡ entriesFrom d l i n
+unfolding entriesFrom
+part-entries d l i zero h = refl
+part-entries d l i (suc n) h =
+    ap (take (suc n)) (drop-cons l i d (omega arith)) ∙ ap (λ (r : List _). getD l i d ∷ r) (part-entries d l (suc i) n (omega arith))
+
+-- a whole list
+pub by-entries : {A : Type 0} (d : A) (l : List A) (n : ℕ) → length l ≡ n → l ≡ entriesFrom d l 0 n
+by-entries d l n h = sym (whole l n h) ∙ part-entries d l 0 n (omega arith)
+  where
+    whole : {A : Type 0} (l : List A) (n : ℕ) → length l ≡ n → take n l ≡ l
+    whole l n h = take-all n l (omega arith)
