@@ -11,3 +11,8 @@ pub mod Counting
 pub mod Paths
 pub mod Placed
 pub mod Small
+pub mod Tests
+pub mod Orders
+pub mod Located
+pub mod Sampled
+pub mod Ancestors

@@ -36,34 +36,42 @@ unfoldable pub toMatrix : Transform → Matrix
 toMatrix (parts p) = fromTrs p
 toMatrix (matrix m) = m
 
+abbrev quarter : Float
+quarter = f32 0x3e80_0000
+
 -- ---- a matrix split into translation, rotation and scale (`from_matrix`)
 
--- a column with its length taken out: times 1 / length, or as it is where the length is not above f32's EPSILON, 2 ^ -23
-unfoldable pub direction : Vector → Vector
-direction c = let s = norm c in pick (lt (f32 0x3400_0000) s) (one32 ⊘ s) one32 ⊙ c
+-- what takes the length s out of a column: 1 / s, or 1 where s is not above f32's EPSILON, 2 ^ -23
+unfoldable pub lengthFactor : Float → Float
+lengthFactor s = pick (lt (f32 0x3400_0000) s) (one32 ⊘ s) one32
 
-abbrev twiceRoot : Float → Float
+abbrev pub direction : Vector → Vector
+direction c = lengthFactor (norm c) ⊙ c
+
+-- the quaternion of a rotation by its columns a, b and c, from s: four times its w, x, y or z
+abbrev pub fromW : Vector → Vector → Vector → Float → Vector
+fromW a b c s = (at b 2 ⊖ at c 1) ⊘ s ∷ (at c 0 ⊖ at a 2) ⊘ s ∷ (at a 1 ⊖ at b 0) ⊘ s ∷ quarter ⊗ s ∷ []
+
+abbrev pub fromX : Vector → Vector → Vector → Float → Vector
+fromX a b c s = quarter ⊗ s ∷ (at b 0 ⊕ at a 1) ⊘ s ∷ (at c 0 ⊕ at a 2) ⊘ s ∷ (at b 2 ⊖ at c 1) ⊘ s ∷ []
+
+abbrev pub fromY : Vector → Vector → Vector → Float → Vector
+fromY a b c s = (at b 0 ⊕ at a 1) ⊘ s ∷ quarter ⊗ s ∷ (at c 1 ⊕ at b 2) ⊘ s ∷ (at c 0 ⊖ at a 2) ⊘ s ∷ []
+
+abbrev pub fromZ : Vector → Vector → Vector → Float → Vector
+fromZ a b c s = (at c 0 ⊕ at a 2) ⊘ s ∷ (at c 1 ⊕ at b 2) ⊘ s ∷ quarter ⊗ s ∷ (at a 1 ⊖ at b 0) ⊘ s ∷ []
+
+abbrev pub twiceRoot : Float → Float
 twiceRoot x = sqrtOf binary32 x ⊗ two32
 
--- the quaternion of a rotation by its columns a, b, c: by the trace, else by the largest number on the diagonal (`rot_matrix_to_quat`)
+-- by the trace where that is above 0, else by the largest number on the diagonal (`rot_matrix_to_quat`)
 unfoldable pub quaternion : Vector → Vector → Vector → Vector
 quaternion a b c =
-    let m00 = at a 0 in let m01 = at b 0 in let m02 = at c 0 in
-    let m10 = at a 1 in let m11 = at b 1 in let m12 = at c 1 in
-    let m20 = at a 2 in let m21 = at b 2 in let m22 = at c 2 in
-    let quarter = f32 0x3e80_0000 in
-    let trace = m00 ⊕ m11 ⊕ m22 in
-    pick (lt zero32 trace)
-    (let s = twiceRoot (trace ⊕ one32) in
-    (m21 ⊖ m12) ⊘ s ∷ (m02 ⊖ m20) ⊘ s ∷ (m10 ⊖ m01) ⊘ s ∷ quarter ⊗ s ∷ [])
-    (pick (lt m11 m00 && lt m22 m00)
-    (let s = twiceRoot (one32 ⊕ m00 ⊖ m11 ⊖ m22) in
-    quarter ⊗ s ∷ (m01 ⊕ m10) ⊘ s ∷ (m02 ⊕ m20) ⊘ s ∷ (m21 ⊖ m12) ⊘ s ∷ [])
-    (pick (lt m22 m11)
-    (let s = twiceRoot (one32 ⊕ m11 ⊖ m00 ⊖ m22) in
-    (m01 ⊕ m10) ⊘ s ∷ quarter ⊗ s ∷ (m12 ⊕ m21) ⊘ s ∷ (m02 ⊖ m20) ⊘ s ∷ [])
-    (let s = twiceRoot (one32 ⊕ m22 ⊖ m00 ⊖ m11) in
-    (m02 ⊕ m20) ⊘ s ∷ (m12 ⊕ m21) ⊘ s ∷ quarter ⊗ s ∷ (m10 ⊖ m01) ⊘ s ∷ [])))
+    let x = at a 0 in let y = at b 1 in let z = at c 2 in
+    pick (lt zero32 (x ⊕ y ⊕ z)) (fromW a b c (twiceRoot (x ⊕ y ⊕ z ⊕ one32)))
+    (pick (lt y x && lt z x) (fromX a b c (twiceRoot (one32 ⊕ x ⊖ y ⊖ z)))
+    (pick (lt z y) (fromY a b c (twiceRoot (one32 ⊕ y ⊖ x ⊖ z)))
+    (fromZ a b c (twiceRoot (one32 ⊕ z ⊖ x ⊖ y)))))
 
 -- the scale is the three lengths, which are never negative: a mirror is lost
 unfoldable pub split : Matrix → Trs

@@ -40,10 +40,11 @@ turnedTangent m v = turnedUnit (linear m) (take 3 v) ++ (pick (lt (determinant m
 -- ---- rigid (`transformed`)
 
 -- divided by w, where that is finite and neither 0 nor 1
+unfoldable pub divided : Float → Vector → Vector
+divided w v = pick (not (eq w zero32) && not (eq w one32) && finite w) (over v w) v
+
 unfoldable pub transformedPoint : Matrix → Vector → Vector
-transformedPoint m p =
-    let w = moved m 3 p in
-    pick (not (eq w zero32) && not (eq w one32) && finite w) (over (affinePoint m p) w) (affinePoint m p)
+transformedPoint m p = divided (moved m 3 p) (affinePoint m p)
 
 unfoldable pub transformed : Matrix → Primitive → Shape
 transformed m p = record {

@@ -1,1 +1,5 @@
 pub mod Lengths
+pub mod Arrays
+pub mod Products
+pub mod Slotted
+pub mod Turns
