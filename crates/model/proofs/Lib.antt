@@ -16,3 +16,4 @@ pub mod Orders
 pub mod Located
 pub mod Sampled
 pub mod Ancestors
+pub mod Shared
