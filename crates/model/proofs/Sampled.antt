@@ -6,7 +6,7 @@ use mathlib.Core.Bool.{Bool, true, false, _&&_}
 use mathlib.Core.List.{List, [], _∷_, map, zipWith}
 use mathlib.Core.Option.{none, some, Option·none-ne-some}
 use Prim.Native.Nat.{ℕ, suc, _+_, _-_, _*_, _%_, _≤_, _<_}
-use native.Mathlib.Nat.{le-of-dvd, dvd-of-mod-eq-zero, le-div-iff-mul-le, mul-div-le, div-one, mul-le-mul-right, suc-mul}
+use native.Mathlib.Nat.{le-of-dvd, dvd-of-mod-eq-zero, le-div-iff-mul-le, mul-div-le, div-one, mul-le-mul-right, suc-mul, one-mul, le-trans, le-of-eq}
 use native.Mathlib.Omega.{arith}
 use borrow.Author.Tests.{ltb-true, eqb-true}
 use lib.Dec.{ltb, eqb, lit<}
@@ -15,17 +15,28 @@ use lib.ListN.{length, take, drop, length-take, length-drop, length-map}
 use Rattle.model.specs.Lists.{pick}
 use Rattle.model.specs.Vector.{Vector}
 use Rattle.model.specs.Scene.{Kind, vec3s, quats, scalars, Interpolation, step, linear, cubicSpline, Track}
-use Rattle.model.specs.Sampling.{factor, centre, entries, rows, even, components, rowAt, keyValue, inLine, Where, before, on, between, after, locate, lerp, slerp, cubic, interpolated, valueAt, sample}
+use Rattle.model.specs.Sampling.{factor, centre, entries, rows, even, stride, components, rowAt, keyValue, inLine, Where, before, on, between, after, locate, lerp, slerp, cubic, interpolated, valueAt, sample}
 use Rattle.model.proofs.Tests.{both, either}
 use Rattle.model.proofs.Orders.{eq-sym}
 use Rattle.model.proofs.Located.{key, InRange, locate-in-range, located-unique, located-on, located-before, located-between, located-after}
 
 module _ (t : Track) (isEven : even t ≡ true) where
-  laid-out : (0 < length (t .keys)) × (0 < entries t) × (entries t % rows t ≡ 0)
+  pub laid-out : (0 < length (t .keys)) × (0 < entries t) × (entries t % rows t ≡ 0)
   laid-out =
       let e = both (ltb 0 (length (t .keys)) && ltb 0 (entries t)) (eqb (entries t % rows t) 0) isEven in
       let f = both (ltb 0 (length (t .keys))) (ltb 0 (entries t)) (e .0) in
       (ltb-true 0 (length (t .keys)) (f .0), ltb-true 0 (entries t) (f .1), eqb-true (entries t % rows t) 0 (e .1))
+
+  -- an even track has at least one weight a frame
+  pub stride-some : 0 < stride t
+  stride-some =
+      let l = laid-out in
+      le-div-iff-mul-le (go (t .interpolation) (l .0)) .1 (le-trans (le-of-eq (one-mul (rows t))) (le-of-dvd (l .1) (dvd-of-mod-eq-zero (rows t) (l .2))))
+    where
+      go : (i : Interpolation) → 0 < length (t .keys) → 0 < length (t .keys) * factor i
+      go step h = omega arith
+      go linear h = omega arith
+      go cubicSpline h = omega arith
 
   sample-at : (time : Float) {w : Where} → locate (t .keys) time ≡ w → sample t time ≡ some (valueAt t time w)
   unfolding sample
@@ -94,7 +105,7 @@ part-width : (l : List Float) (at n : ℕ) → at + n ≤ length l → length (t
 part-width l at n h = simp (length-take, length-drop) (omega arith)
 
 module _ (t : Track) (isEven : even t ≡ true) where
-  rows-fit : rows t * components t ≤ length (t .values)
+  pub rows-fit : rows t * components t ≤ length (t .values)
   rows-fit = go (t .kind) refl
     where
       enough : rows t ≤ entries t

@@ -12,7 +12,9 @@ pub mod World
 pub mod Skin
 pub mod Morph
 pub mod Vertices
+pub mod Limits
 pub mod Refusals
+pub mod Calls
 pub mod Bake
 pub mod Agree
 pub mod Starred

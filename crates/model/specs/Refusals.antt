@@ -7,6 +7,7 @@ use lib.Dec.{eqb, ltb}
 use lib.Ieee.{Float, isNan}
 use lib.ListN.{length}
 use Rattle.model.specs.Lists.{pick, anyOf}
+use Rattle.model.specs.Limits.{keyLimit, weightLimit}
 use Rattle.model.specs.Scene.{Kind, vec3s, quats, scalars, Interpolation, step, linear, cubicSpline, Track, Scene, nodeCount}
 use Rattle.model.specs.Sampling.{even, stride, inLine}
 use Rattle.model.specs.Placing.{childEntries}
@@ -68,15 +69,19 @@ lowest (suc g) n = suc g
 
 -- ---- which call draws which number; `tables` is what the tables drew, 0, 1 or 2
 
-abbrev isScalars : Kind → Bool
+abbrev pub isScalars : Kind → Bool
 isScalars vec3s = false
 isScalars quats = false
 isScalars scalars = true
 
-abbrev isCubic : Interpolation → Bool
+abbrev pub isCubic : Interpolation → Bool
 isCubic step = false
 isCubic linear = false
 isCubic cubicSpline = true
+
+-- a track with too many keys, or too many weights a frame where it is an even scalar track
+abbrev pub trackOverLimit : Track → Bool
+trackOverLimit t = ltb keyLimit (length (t .keys)) || (isScalars (t .kind) && even t && ltb weightLimit (stride t))
 
 -- one track at a time; room is asked of a scalar track alone, whose weights are written out
 unfoldable pub sampleNumber : ℕ → Track → Float → ℕ → ℕ
@@ -89,13 +94,17 @@ sampleNumber tables t time room =
     ∷ record { applies = isScalars (t .kind) && ltb room (stride t); refusal = shortOutput }
     ∷ []))
 
+-- frame k is not one of a scalar track with so many keys, or all three rows are asked of a track that is no cubic spline
+abbrev pub badFrame : Kind → Interpolation → ℕ → Bool → ℕ → Bool
+badFrame kind i keys rows k = not (isScalars kind) || not (ltb k keys) || (rows && not (isCubic i))
+
 -- a frame of a scalar track; whether all three rows of a cubic spline are asked for
 unfoldable pub frameNumber : ℕ → Track → Bool → ℕ → ℕ
 frameNumber tables t rows k =
     lowest tables
     (firstOf
     (record { applies = not (even t); refusal = unevenTrack }
-    ∷ record { applies = not (isScalars (t .kind)) || not (ltb k (length (t .keys))) || (rows && not (isCubic (t .interpolation))); refusal = noSuchFrame }
+    ∷ record { applies = badFrame (t .kind) (t .interpolation) (length (t .keys)) rows k; refusal = noSuchFrame }
     ∷ []))
 
 -- an even track that is aimed at a node, whatever its kind, has keys that are not in line

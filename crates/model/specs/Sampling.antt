@@ -49,7 +49,7 @@ abbrev pub stride : Track → ℕ
 stride t = entries t / rows t
 
 -- a row of a scalar track has `stride` weights; a Vec3 or Quat track reads entry by entry, also where it has a larger multiple
-abbrev rowWidth : Kind → ℕ → ℕ
+abbrev pub rowWidth : Kind → ℕ → ℕ
 rowWidth vec3s n = 3
 rowWidth quats n = 4
 rowWidth scalars n = n
@@ -94,6 +94,9 @@ locateFrom k (x ∷ xs) t = pick (lt t x) (gap k) (pick (eq t x) (on k) (locateF
 unfoldable pub locate : List Float → Float → Where
 locate keys t = locateFrom 0 keys t
 
+abbrev three32 : Float
+three32 = f32 0x4040_0000
+
 -- ---- between two keys: u runs from 0 to 1, d is the time from key to key
 
 -- glTF 2.0, C.3
@@ -101,13 +104,13 @@ unfoldable pub lerp : Float → Vector → Vector → Vector
 lerp u a b = (one32 ⊖ u) ⊙ a ⊞ u ⊙ b
 
 -- glTF 2.0, C.4, with the scope's turn weights W in place of sines
-abbrev shorter : Float → Float
+abbrev pub shorter : Float → Float
 shorter d = pick (lt d zero32) (neg d) d
 
-abbrev cutAtOne : Float → Float
+abbrev pub cutAtOne : Float → Float
 cutAtOne d = pick (lt one32 d) one32 d
 
-abbrev unitLerp : Vector → Vector
+abbrev pub unitLerp : Vector → Vector
 unitLerp r = pick (lt zero32 (norm r)) (over r (norm r)) r
 
 unfoldable pub slerp : Float → Vector → Vector → Vector
@@ -117,18 +120,23 @@ slerp u a b =
     let c = cutAtOne (shorter d) in
     pick (eq c one32) (unitLerp (lerp u a near)) (weight (one32 ⊖ u) c ⊙ a ⊞ weight u c ⊙ near)
 
--- glTF 2.0, C.5: value and out-tangent of the first key, value and in-tangent of the second
-unfoldable pub cubic : Float → Float → Vector → Vector → Vector → Vector → Vector
-cubic u d v out v′ in′ =
-    let uu = u ⊗ u in
-    let uuu = uu ⊗ u in
-    let three = f32 0x4040_0000 in
-    (two32 ⊗ uuu ⊖ three ⊗ uu ⊕ one32) ⊙ v
-    ⊞ d ⊗ (uuu ⊖ two32 ⊗ uu ⊕ u) ⊙ out
-    ⊞ (neg two32 ⊗ uuu ⊕ three ⊗ uu) ⊙ v′
-    ⊞ d ⊗ (uuu ⊖ uu) ⊙ in′
+-- glTF 2.0, C.5: the factors of the first key's value and out-tangent, and of the second key's value and in-tangent
+unfoldable pub valueFactor : Float → Float
+valueFactor u = two32 ⊗ (u ⊗ u ⊗ u) ⊖ three32 ⊗ (u ⊗ u) ⊕ one32
 
-abbrev straight : Kind → Float → Vector → Vector → Vector
+unfoldable pub outFactor : Float → Float → Float
+outFactor u d = d ⊗ (u ⊗ u ⊗ u ⊖ two32 ⊗ (u ⊗ u) ⊕ u)
+
+unfoldable pub nextFactor : Float → Float
+nextFactor u = neg two32 ⊗ (u ⊗ u ⊗ u) ⊕ three32 ⊗ (u ⊗ u)
+
+unfoldable pub inFactor : Float → Float → Float
+inFactor u d = d ⊗ (u ⊗ u ⊗ u ⊖ u ⊗ u)
+
+unfoldable pub cubic : Float → Float → Vector → Vector → Vector → Vector → Vector
+cubic u d v out next into = valueFactor u ⊙ v ⊞ outFactor u d ⊙ out ⊞ nextFactor u ⊙ next ⊞ inFactor u d ⊙ into
+
+abbrev pub straight : Kind → Float → Vector → Vector → Vector
 straight vec3s u a b = lerp u a b
 straight quats u a b = slerp u a b
 straight scalars u a b = lerp u a b
