@@ -2,7 +2,9 @@
 //! default from the repository's sibling folder `shared`). Six files are
 //! compiled whole, by `#[path]`. Of scene.rs, which names many modules that
 //! are not at hand, the items listed here are cut out by name, so that
-//! nothing of it is typed anew.
+//! nothing of it is typed anew; its functions are made public. So are two
+//! functions of skinning.rs whose answers no public function shows: they stand
+//! in a module of their own, `parts`, beside skinning.rs as it is.
 
 use std::{
     env, fs,
@@ -20,21 +22,24 @@ const WHOLE_FILES: [&str; 6] = [
     "transform",
 ];
 
-const SCENE_ITEMS: [&str; 14] = [
+const SCENE_ITEMS: [&str; 9] = [
     "pub enum Axis {",
     "pub enum Unit {",
     "pub enum Transform {",
     "impl Transform {",
-    "fn vec3_len(",
-    "pub(crate) fn mat4_mul(",
-    "pub(crate) fn mat4_affine_inverse(",
-    "fn trs_to_matrix(",
-    "fn rot_matrix_to_quat(",
     "pub struct Node {",
     "impl Node {",
     "impl Default for Node {",
     "pub struct Scene3D {",
     "impl Default for Scene3D {",
+];
+
+const SCENE_FUNCTIONS: [&str; 5] = [
+    "fn vec3_len(",
+    "pub(crate) fn mat4_mul(",
+    "pub(crate) fn mat4_affine_inverse(",
+    "fn trs_to_matrix(",
+    "fn rot_matrix_to_quat(",
 ];
 
 const SCENE_METHODS: [&str; 9] = [
@@ -49,19 +54,24 @@ const SCENE_METHODS: [&str; 9] = [
     "pub fn world_node_transforms(",
 ];
 
+const SKINNING_FUNCTIONS: [&str; 2] = ["fn mat4_madd(", "fn linear_det("];
+
 fn main() {
     let source = source_folder();
     let out = PathBuf::from(env::var("OUT_DIR").expect("OUT_DIR"));
 
-    let scene = out.join("scene.rs");
-    let text = fs::read_to_string(watched(&source, "scene")).expect("scene.rs");
-    fs::write(&scene, cut_scene(&text)).expect("write scene.rs");
+    let read = |name| fs::read_to_string(watched(&source, name)).expect(name);
+    let (scene, parts) = (out.join("scene.rs"), out.join("parts.rs"));
+    fs::write(&scene, cut_scene(&read("scene"))).expect("write scene.rs");
+    let functions = cut_functions(&read("skinning"), &SKINNING_FUNCTIONS);
+    fs::write(&parts, functions).expect("write parts.rs");
 
     let mut modules = String::new();
     for name in WHOLE_FILES {
         modules += &module(name, &watched(&source, name));
     }
     modules += &module("scene", &scene);
+    modules += &module("parts", &parts);
     fs::write(out.join("modules.rs"), modules).expect("write modules.rs");
 }
 
@@ -96,12 +106,22 @@ fn cut_scene(scene: &str) -> String {
     for head in SCENE_ITEMS {
         out += &cut(scene, head);
     }
+    out += &cut_functions(scene, &SCENE_FUNCTIONS);
     let methods = cut(scene, "impl Scene3D {");
     out += "impl Scene3D {\n";
     for head in SCENE_METHODS {
         out += &cut(&methods, &format!("    {head}"));
     }
     out + "}\n"
+}
+
+/// The functions of these heads, each made public.
+fn cut_functions(source: &str, heads: &[&str]) -> String {
+    let public = |head: &&str| {
+        let name = head.trim_start_matches("pub(crate) ");
+        cut(source, head).replacen(head, &format!("pub {name}"), 1)
+    };
+    heads.iter().map(public).collect()
 }
 
 /// The one item whose line begins with `head`.

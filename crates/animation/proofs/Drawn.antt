@@ -104,10 +104,10 @@ module _ (floats : List Float) (t : Track) where
 
       go : (a b : Bool) → (keysFit floats t && valuesFit floats t) ≡ a → trackOverLimit (trackIn floats t) ≡ b → Clear
       go true false p q = record {
-          inside = p;
-          few = subst (λ (n : ℕ). n ≤ keyLimit) (keys-length p) (ltb-false keyLimit (length (trackIn floats t .keys)) (fewer (ltb keyLimit (length (trackIn floats t .keys))) _ q));
-          within = q
-        }
+        inside = p;
+        few = subst (λ (n : ℕ). n ≤ keyLimit) (keys-length p) (ltb-false keyLimit (length (trackIn floats t .keys)) (fewer (ltb keyLimit (length (trackIn floats t .keys))) _ q));
+        within = q;
+      }
       go true true p q = absurd (no 1 (sym (by-tests true true p q) ∙ z))
       go false b p q = absurd (no 0 (sym (by-tests false b p q) ∙ z))
 
@@ -125,3 +125,6 @@ some-stride t n e h = go (even t) refl
     go : (b : Bool) → even t ≡ b → even t ≡ true
     go true p = p
     go false p = absurd (h (e ∙ ap (λ (b : Bool). pick b (stride t) 0) p))
+
+pub stride-of : (t : scene.Track) (n : ℕ) → n ≡ strideIn t → even t ≡ true → n ≡ stride t
+stride-of t n e h = e ∙ ap (λ (b : Bool). pick b (stride t) 0) h

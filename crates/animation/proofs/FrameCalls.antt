@@ -16,7 +16,7 @@ use Rattle.model.proofs.Numbers.{frame-accepted}
 use Rattle.animation.specs.declared.Track.{Track}
 use Rattle.animation.specs.Values.{interpolationOf}
 use Rattle.animation.specs.Tracks.{trackIn, tableNumber, strideIn}
-use Rattle.animation.proofs.Drawn.{Clear, clear, keys-length, values-length}
+use Rattle.animation.proofs.Drawn.{Clear, clear, keys-length, values-length, stride-of}
 use Rattle.animation.proofs.FrameParts.{in-keys, frame-fits, frame-is, cubic-fits, frame-refused}
 
 module _ (floats : List Float) (t : Track) (asked : Bool) (k : ℕ) where
@@ -44,7 +44,7 @@ module _ (floats : List Float) (t : Track) (asked : Bool) (k : ℕ) where
 
     -- the stride of the code
     stride-is : (s : ℕ) → s ≡ strideIn tr → s ≡ stride tr
-    stride-is s q = q ∙ ap (λ (b : Bool). pick b (stride tr) 0) (told .1)
+    stride-is s q = stride-of tr s q (told .1)
 
     pub row-inside : (f c s : ℕ) → f ≡ factor i → c ≡ centre i → s ≡ strideIn tr → (k * f + c) * s + s ≤ length (tr .values)
     row-inside f c s p q r =

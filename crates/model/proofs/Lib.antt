@@ -1,4 +1,5 @@
 pub mod ListLaws
+pub mod Filling
 pub mod Listing
 pub mod Posing
 pub mod Worlds

@@ -14,7 +14,9 @@
 
 mod leaves;
 mod list;
+mod matrices;
 mod measure;
+mod placing;
 mod port;
 mod rng;
 mod tally;
@@ -25,7 +27,11 @@ use std::{env, io, process::ExitCode};
 type Area = (&'static str, fn() -> bool);
 
 /// From the leaves up.
-const AREAS: [Area; 1] = [("leaves", leaves::compare)];
+const AREAS: [Area; 3] = [
+    ("leaves", leaves::compare),
+    ("matrices", matrices::compare),
+    ("placing", placing::compare),
+];
 
 fn main() -> io::Result<ExitCode> {
     let arguments: Vec<String> = env::args().skip(1).collect();
@@ -65,4 +71,5 @@ fn gate() -> bool {
 fn speed() {
     measure::print_heading();
     leaves::speed::measure();
+    matrices::speed::measure();
 }

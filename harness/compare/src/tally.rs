@@ -1,5 +1,5 @@
 //! What the comparisons share: the count of cases with the smallest that
-//! differs, equality of floats, and batches.
+//! differs, which sorts of cases were met, equality of floats, and batches.
 
 use std::fmt::LowerHex;
 
@@ -57,6 +57,60 @@ impl<Input: Ord + LowerHex> Tally<Input> {
     }
 }
 
+impl Tally<Vec<u32>> {
+    /// Counts one case of several numbers in and several out.
+    pub fn count_numbers(&mut self, input: &[&[f32]], rust: &[f32], port: &[f32]) {
+        let bits = |xs: &[f32]| xs.iter().map(|x| x.to_bits()).collect::<Vec<u32>>();
+        let compared = |x: &f32| one_nan_bits(*x);
+        let equal = rust.iter().map(compared).eq(port.iter().map(compared));
+        let input = if equal {
+            Vec::new() // which is not kept
+        } else {
+            bits(&input.concat())
+        };
+        self.count(input, equal, |input| {
+            let (rust, port) = (bits(rust), bits(port));
+            format!("{input:08x?}, Rust {rust:08x?}, port {port:08x?}")
+        });
+    }
+}
+
+/// How often each of some sorts of cases was met.
+pub struct Met<const N: usize> {
+    names: [&'static str; N],
+    counts: [u64; N],
+}
+
+impl<const N: usize> Met<N> {
+    pub fn new(names: [&'static str; N]) -> Self {
+        Met {
+            names,
+            counts: [0; N],
+        }
+    }
+
+    pub fn count(&mut self, sort: usize) {
+        self.counts[sort] += 1;
+    }
+
+    /// The counts, to follow a line.
+    pub fn note(&self) -> String {
+        let all = self.names.iter().zip(&self.counts);
+        all.map(|(name, count)| format!(", {name} {count}"))
+            .collect()
+    }
+
+    /// Names each sort that was never met; true if there is none.
+    pub fn report(&self) -> bool {
+        for (name, count) in self.names.iter().zip(self.counts) {
+            if count == 0 {
+                println!("  never met: {name}");
+            }
+        }
+        !self.counts.contains(&0)
+    }
+}
+
 /// The bits of `x`, all NaNs counting as one. A NaN is told by its bits: the
 /// compiler takes a choice by `is_nan` between a root and NaN for the root alone.
 pub fn one_nan_bits(x: f32) -> u32 {
@@ -67,6 +121,10 @@ pub fn one_nan_bits(x: f32) -> u32 {
         bits
     }
 }
+
+/// In room that a call is to fill: no answer, so that a number which it leaves
+/// alone shows.
+pub const UNTOUCHED: f32 = f32::from_bits(0xdead_beef);
 
 pub const BATCH: usize = 4096;
 

@@ -1,12 +1,13 @@
 //! Slices of different lengths: an entry fills as much as all of them reach,
 //! returns that count, and leaves the rest as it was.
 
-use crate::{port, tally::Tally};
+use crate::{
+    port,
+    tally::{Tally, UNTOUCHED},
+};
 
 const LENGTHS: [usize; 14] = [0, 1, 2, 3, 4, 5, 7, 8, 9, 15, 16, 17, 32, 33];
 const LONGEST: usize = 33;
-/// No answer of the calls below.
-const UNTOUCHED: f32 = f32::from_bits(0xdead_beef);
 
 /// Calls an entry with inputs of the given lengths.
 type Call<'a> = &'a dyn Fn(&[usize], &mut [f32]) -> usize;

@@ -1,0 +1,10 @@
+-- `entries::matrices::scene_mul3` meets its contract. Assumes nothing.
+use borrow.Author.Needs.{needs}
+use Rattle.entries.proofs.matrices.scene_mul3.Statement.{statement}
+use Rattle.entries.proofs.matrices.scene_mul3.Tie as tie
+
+returns : tie.Need-returns
+returns c = cc
+
+pub scene-mul3-spec : {M : Type 1} → statement M
+scene-mul3-spec = tie.close (tie.spec (λ c κs. search needs) (λ c κs. search needs) (λ c κs. search needs) returns)
