@@ -46,19 +46,18 @@ module _ (floats : List Float) (t : Track) (asked : Bool) (k : ℕ) where
     stride-is : (s : ℕ) → s ≡ strideIn tr → s ≡ stride tr
     stride-is s q = stride-of tr s q (told .1)
 
-    pub row-inside : (f c s : ℕ) → f ≡ factor i → c ≡ centre i → s ≡ strideIn tr → (k * f + c) * s + s ≤ length (tr .values)
-    row-inside f c s p q r =
-        subst (λ (g : ℕ). (k * g + c) * s + s ≤ length (tr .values)) (sym p)
-        (subst (λ (d : ℕ). (k * factor i + d) * s + s ≤ length (tr .values)) (sym q)
-        (subst (λ (w : ℕ). (k * factor i + centre i) * w + w ≤ length (tr .values)) (sym (stride-is s r)) (frame-fits tr k asked (told .1) (told .2))))
+    pub row-inside : (r s : ℕ) → r ≡ k * factor i + centre i → s ≡ strideIn tr → r * s + s ≤ length (tr .values)
+    row-inside r s p q =
+        subst (λ (m : ℕ). m * s + s ≤ length (tr .values)) (sym p)
+        (subst (λ (w : ℕ). (k * factor i + centre i) * w + w ≤ length (tr .values)) (sym (stride-is s q)) (frame-fits tr k asked (told .1) (told .2)))
 
     answered : frameOf (tableNumber floats t) tr asked k ≡ pick asked (cubicFrame tr k) (frame tr k)
     unfolding frameOf
     answered = ap (λ (m : ℕ). frameOr m (pick asked (cubicFrame tr k) (frame tr k))) (sym e ∙ accepted)
 
-    pub row-answered : (f c s : ℕ) → f ≡ factor i → c ≡ centre i → s ≡ strideIn tr → asked ≡ false → row s (tr .values) (k * f + c) ≡ frameOf (tableNumber floats t) tr asked k
-    row-answered f c s p q r a =
-        (λ j. row (stride-is s r j) (tr .values) (k * p j + q j))
+    pub row-answered : (r s : ℕ) → r ≡ k * factor i + centre i → s ≡ strideIn tr → asked ≡ false → row s (tr .values) r ≡ frameOf (tableNumber floats t) tr asked k
+    row-answered r s p q a =
+        (λ j. row (stride-is s q j) (tr .values) (p j))
         ∙ frame-is tr k asked (told .1) (told .2)
         ∙ sym (answered ∙ ap (λ (b : Bool). pick b (cubicFrame tr k) (frame tr k)) a)
 

@@ -65,3 +65,11 @@ pub(crate) fn even_stride(keys: usize, count: usize, factor: usize) -> usize
     }
     count / rows
 }
+
+// The row of the value of key k.
+pub(crate) fn key_row(interpolation: Interpolation, k: usize) -> usize
+    requires { ⌜ k ≤ 65535 ⌝ }
+    ensures { λ r. ⌜ r ≡ k * factor (interpolationOf interpolation) + centre (interpolationOf interpolation) ⌝ }
+{
+    k * factor(interpolation) + centre(interpolation)
+}

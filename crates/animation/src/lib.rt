@@ -16,6 +16,7 @@ pub use blend::slerp;
 pub use frames::frame_number;
 pub use frames::morph_weight_cubic_frame;
 pub use frames::morph_weight_frame;
+pub use frames::morph_weight_stride;
 pub use keys::keys_in_line;
 pub use sampler::sample;
 pub use sampler::sample_number;

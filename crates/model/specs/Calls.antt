@@ -8,8 +8,8 @@ use lib.ListN.{length, drop}
 use Rattle.model.specs.Lists.{pick}
 use Rattle.model.specs.Vector.{Vector}
 use Rattle.model.specs.Scene.{Kind, vec3s, quats, scalars, Track}
-use Rattle.model.specs.Sampling.{stride, locate, valueAt, frame, cubicFrame}
-use Rattle.model.specs.Refusals.{sampleNumber, frameNumber}
+use Rattle.model.specs.Sampling.{even, stride, locate, valueAt, frame, cubicFrame}
+use Rattle.model.specs.Refusals.{isScalars, sampleNumber, frameNumber}
 
 -- the refusal number or 0; a Vec3 or Quat that is answered; how many weights of a scalar track were written, and the slice that they were written to
 pub record Sampled : Type 0 where
@@ -40,3 +40,11 @@ frameOr (suc n) l = []
 
 unfoldable pub frameOf : ℕ → Track → Bool → ℕ → List Float
 frameOf tables t rows k = frameOr (frameNumber tables t rows k) (pick rows (cubicFrame t k) (frame t k))
+
+-- weights per frame of an even scalar track, and 0 where there are none
+abbrev pub strideOr : ℕ → ℕ → ℕ
+strideOr zero n = n
+strideOr (suc g) n = 0
+
+unfoldable pub strideOf : ℕ → Track → ℕ
+strideOf tables t = strideOr tables (pick (isScalars (t .kind)) (pick (even t) (stride t) 0) 0)

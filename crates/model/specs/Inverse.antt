@@ -2,7 +2,7 @@
 -- it. Definitions only.
 use mathlib.Core.List.{List, [], _∷_, _++_, map}
 use mathlib.Core.Bool.{Bool, not, _&&_, _||_}
-use mathlib.Core.Option.{Option, none, some}
+use mathlib.Core.Option.{Option, none}
 use Prim.Native.Nat.{ℕ, _+_}
 use lib.Ieee.{Float, binary32, neg, lt, sub}
 use lib.Ieee.Scale.{finite}
@@ -37,11 +37,21 @@ cofactors64 l =
 unfoldable pub determinant64 : List Float → List Float → Float
 determinant64 l c = at l 0 ⊗ at c 0 ⊕ at l 1 ⊗ at c 1 ⊕ at l 2 ⊗ at c 2
 
--- row j of the inverse, from the cofactors, r = 1 / determinant and the translation: column j of the cofactors times r, and the translation undone
-unfoldable pub inverseRow : List Float → Float → Vector → ℕ → Vector
-inverseRow c r t j =
-    let x = at c j ⊗ r in let y = at c (3 + j) ⊗ r in let z = at c (6 + j) ⊗ r in
+-- column j of nine numbers row by row
+abbrev pub column3 : List Float → ℕ → Vector
+column3 c j = at c j ∷ at c (3 + j) ∷ at c (6 + j) ∷ []
+
+-- a row of the inverse, from a column of the cofactors, r = 1 / determinant and the translation: the column times r, and the translation undone
+unfoldable pub inverseRow : Vector → Float → Vector → Vector
+inverseRow v r t =
+    let x = at v 0 ⊗ r in let y = at v 1 ⊗ r in let z = at v 2 ⊗ r in
     x ∷ y ∷ z ∷ neg (x ⊗ at t 0 ⊕ y ⊗ at t 1 ⊕ z ⊗ at t 2) ∷ []
+
+-- the inverse from the cofactors, r and the translation, narrowed
+unfoldable pub inverseFrom : List Float → Float → Vector → Matrix
+inverseFrom c r t =
+    let row : ℕ → Vector = λ j. inverseRow (column3 c j) r t in
+    map narrowOf (row 0 ++ row 1 ++ row 2) ++ bottomRow
 
 abbrev pub translationOf : Matrix → Vector
 translationOf m = entry m 0 3 ∷ entry m 1 3 ∷ entry m 2 3 ∷ []
@@ -51,12 +61,15 @@ unfoldable pub affineInverse : Matrix → Option Matrix
 affineInverse m =
     let c = cofactors64 (linear m) in
     let d = determinant64 (linear m) c in
-    let row = inverseRow c (one64 ⊘ d) (translationOf m) in
-    pick (affine m && invertible d) (whenFinite (map narrowOf (row 0 ++ row 1 ++ row 2) ++ bottomRow)) none
+    pick (affine m && invertible d) (whenFinite (inverseFrom c (one64 ⊘ d) (translationOf m))) none
+
+-- the linear part, transposed
+abbrev pub transposed : Matrix → List Float
+transposed n =
+    entry n 0 0 ∷ entry n 1 0 ∷ entry n 2 0
+    ∷ entry n 0 1 ∷ entry n 1 1 ∷ entry n 2 1
+    ∷ entry n 0 2 ∷ entry n 1 2 ∷ entry n 2 2 ∷ []
 
 -- the normal matrix of vertices that are transformed: the linear part of the inverse, transposed
 unfoldable pub normalMatrix : Matrix → Option (List Float)
-normalMatrix m =
-    mapSome
-    (λ (n : Matrix). entry n 0 0 ∷ entry n 1 0 ∷ entry n 2 0 ∷ entry n 0 1 ∷ entry n 1 1 ∷ entry n 2 1 ∷ entry n 0 2 ∷ entry n 1 2 ∷ entry n 2 2 ∷ [])
-    (affineInverse m)
+normalMatrix m = mapSome transposed (affineInverse m)

@@ -5,6 +5,9 @@ mod matrices;
 mod transforms;
 mod vectors;
 
+pub use inverses::linear_inverse_transpose;
+pub use inverses::mat4_affine_inverse;
+pub use inverses::normal_matrix;
 pub use matrices::affine_point;
 pub use matrices::identity;
 pub use matrices::linear_det;

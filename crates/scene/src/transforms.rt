@@ -55,7 +55,7 @@ pub fn trs_to_matrix(p: Trs) -> Mat4
     }
 }
 
-fn entries_to_matrix(e: Entries) -> Mat4
+pub(crate) fn entries_to_matrix(e: Entries) -> Mat4
     ensures { λ r. ⌜ r .m ≡ mat4 e ⌝ }
 {
     Mat4 {
