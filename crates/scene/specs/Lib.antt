@@ -1,4 +1,3 @@
 pub mod Values
-pub mod Cell
 pub mod Slots
 pub mod Wide

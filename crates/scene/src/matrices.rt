@@ -5,13 +5,12 @@ ghost use mathlib.Core.Path.{_≡_};
 ghost use Prim.Native.Nat.{_+_, _*_, _≤_, _<_};
 ghost use lib.ListN.{length};
 ghost use lib.Seq.{paste};
-ghost use Rattle.model.specs.Lists.{part};
-ghost use Rattle.model.specs.Vector.{_⊙_, _⊞_};
-ghost use Rattle.model.specs.Matrix.{identity, mul, linear, moved, determinant};
+ghost use Rattle.model.specs.Lists.{part, tabulate};
+ghost use Rattle.model.specs.Vector.{_⊙_, _⊞_, dot};
+ghost use Rattle.model.specs.Matrix.{column, identity, mul, linear, moved, determinant};
 ghost use Rattle.model.specs.Vertices.{affinePoint, divided, transformedPoint};
-ghost use Rattle.scene.specs.Values.{vec3, mat3};
+ghost use Rattle.scene.specs.Values.{vec3, mat3, inRow, byRows};
 ghost use Rattle.scene.specs.Slots.{matrixIn, Stored};
-ghost use Rattle.scene.specs.Cell.{cell};
 
 pub fn identity() -> Mat4
     ensures { λ r. ⌜ r .m ≡ identity ⌝ }
@@ -38,25 +37,101 @@ pub fn identity() -> Mat4
     }
 }
 
-// The row of a that starts at i, times column j of b.
-fn cell_of(a: Mat4, b: Mat4, i: usize, j: usize) -> f32
-    requires { ⌜ (i + 4 ≤ 16) × (j < 4) ⌝ }
-    ensures { λ r. ⌜ r ≡ cell (a .m) (b .m) i j ⌝ }
+// Four numbers of a matrix, from left to right.
+struct Row {
+    x: f32,
+    y: f32,
+    z: f32,
+    w: f32,
+}
+
+struct Rows {
+    a: Row,
+    b: Row,
+    c: Row,
+    d: Row,
+}
+
+fn rows_of(m: Mat4) -> Rows
+    ensures { λ r. ⌜ byRows r ≡ m .m ⌝ }
 {
-    a.m[i] * b.m[j] + a.m[i + 1] * b.m[j + 4] + a.m[i + 2] * b.m[j + 8] + a.m[i + 3] * b.m[j + 12]
+    Rows {
+        a: Row {
+            x: m.m[0],
+            y: m.m[1],
+            z: m.m[2],
+            w: m.m[3],
+        },
+        b: Row {
+            x: m.m[4],
+            y: m.m[5],
+            z: m.m[6],
+            w: m.m[7],
+        },
+        c: Row {
+            x: m.m[8],
+            y: m.m[9],
+            z: m.m[10],
+            w: m.m[11],
+        },
+        d: Row {
+            x: m.m[12],
+            y: m.m[13],
+            z: m.m[14],
+            w: m.m[15],
+        },
+    }
+}
+
+// A row of a product: r times each column of m.
+fn mul_row(r: Row, m: Rows) -> Row
+    ensures { λ p. ⌜ inRow p ≡ tabulate 4 (λ j. dot (inRow r) (column (byRows m) j)) ⌝ }
+{
+    Row {
+        x: r.x * m.a.x + r.y * m.b.x + r.z * m.c.x + r.w * m.d.x,
+        y: r.x * m.a.y + r.y * m.b.y + r.z * m.c.y + r.w * m.d.y,
+        z: r.x * m.a.z + r.y * m.b.z + r.z * m.c.z + r.w * m.d.z,
+        w: r.x * m.a.w + r.y * m.b.w + r.z * m.c.w + r.w * m.d.w,
+    }
+}
+
+fn matrix_of(m: Rows) -> Mat4
+    ensures { λ r. ⌜ r .m ≡ byRows m ⌝ }
+{
+    Mat4 {
+        m: [
+            m.a.x,
+            m.a.y,
+            m.a.z,
+            m.a.w,
+            m.b.x,
+            m.b.y,
+            m.b.z,
+            m.b.w,
+            m.c.x,
+            m.c.y,
+            m.c.z,
+            m.c.w,
+            m.d.x,
+            m.d.y,
+            m.d.z,
+            m.d.w,
+        ],
+    }
 }
 
 // a times b.
 pub fn mat4_mul(a: Mat4, b: Mat4) -> Mat4
     ensures { λ r. ⌜ r .m ≡ mul (a .m) (b .m) ⌝ }
 {
-    let mut out = [0.0f32; 16];
-    let mut k = 0usize;
-    while k < 16 {
-        out[k] = cell_of(a, b, k / 4 * 4, k % 4);
-        k += 1;
-    }
-    Mat4 { m: out }
+    let left = rows_of(a);
+    let right = rows_of(b);
+    matrix_of(Rows {
+        a: mul_row(left.a, right),
+        b: mul_row(left.b, right),
+        c: mul_row(left.c, right),
+        d: mul_row(left.d, right),
+    })
 }
 
 // m plus w times n, entry by entry.
