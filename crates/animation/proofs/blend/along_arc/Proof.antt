@@ -9,7 +9,8 @@ returns : tie.Need-returns
 returns c = rw (c .before .before .if1 .taken) (c .unit-or-same .ensures ∙ ap unitLerp (c .before .lerp4 .ensures))
 
 returns-2 : tie.Need-returns-2
-returns-2 c = rw (c .before .before .before .if1 .left, ← c .before .before .turn-weight .ensures, ← c .before .turn-weight2 .ensures) (c .weighted4 .ensures)
+returns-2 c =
+    rw (c .before .before .before .if1 .left, ← c .before .before .turn-weight .ensures, ← c .before .turn-weight2 .ensures) (c .weighted4 .ensures)
 
 pub along-arc-spec : {M : Type 1} → statement M
 along-arc-spec =

@@ -16,7 +16,11 @@ use Rattle.animation.proofs.numbers.table_number.Statement.{statement}
 use Rattle.animation.proofs.numbers.table_number.Tie as tie
 
 returns : tie.Need-returns
-returns c = drawn-keys (now (c .before .before .before .before .before .before .args .floats)) (c .before .before .before .before .before .before .args .t) (sym (c .before .before .before .before .lies-in .ensures) ∙ c .before .before .before .if1 .taken) (c .if2 .taken)
+returns c =
+    let s = c .before .before .before .before .before .before in
+    let floats = now (s .args .floats) in
+    let t = s .args .t in
+    drawn-keys floats t (sym (c .before .before .before .before .lies-in .ensures) ∙ c .before .before .before .if1 .taken) (c .if2 .taken)
 
 even-stride-requires : tie.Need-even-stride-requires
 even-stride-requires c κs = (c .before .if2 .left, c .factor .ensures .1, c .factor .ensures .2)
@@ -37,7 +41,11 @@ returns-3 c =
     drawn-weights (now (c .before .before .before .before .before .before .before .before .before .before .args .floats)) (c .before .before .before .before .before .before .before .before .before .before .args .t) (sym (c .before .before .before .before .before .before .before .before .lies-in .ensures) ∙ c .before .before .before .before .before .before .before .if1 .taken) _ (c .before .before .before .before .if2 .left) (sym (over (c .before)) ∙ c .if3 .left)
 
 returns-4 : tie.Need-returns-4
-returns-4 c = drawn-out (now (c .before .before .before .args .floats)) (c .before .before .before .args .t) (sym (c .before .lies-in .ensures) ∙ c .if1 .left)
+returns-4 c =
+    let s = c .before .before .before in
+    let floats = now (s .args .floats) in
+    let t = s .args .t in
+    drawn-out floats t (sym (c .before .lies-in .ensures) ∙ c .if1 .left)
 
 pub table-number-spec : {M : Type 1} → statement M
 table-number-spec =
