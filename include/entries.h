@@ -1,0 +1,34 @@
+/* The C functions of target/staticlib/libentries.a (`rt staticlib entries`). A slice is a pointer and a length; a pointer
+   to an array reaches over the length that is given. Pointers of length 0 must not be null. Slices that are written must
+   not overlap others. docs/TABLES.md says what a track is, and lists the refusal numbers. */
+#ifndef ENTRIES_H
+#define ENTRIES_H
+
+#include <stddef.h>
+#include <stdint.h>
+
+/* As many results as there are inputs and room; answers how many. */
+size_t sqrt_all(const float *xs, size_t xs_len, float *out, size_t out_len);
+size_t narrow_all(const double *xs, size_t xs_len, float *out, size_t out_len);
+size_t turn_weight_all(const float *vs, size_t vs_len, const float *cs, size_t cs_len, float *out, size_t out_len);
+
+/* Matrices are sixteen floats row by row, or nine; quaternions x, y, z, w. Where a number is answered it is 1 and `out`
+   holds the result, or 0 and `out` is as lent. */
+float scene_vec3_len(const float v[3]);
+uint32_t scene_normalize3(const float v[3], float out[3]);
+void scene_mul3(const float l[9], const float v[3], float out[3]);
+void scene_identity(float out[16]);
+void scene_mat4_mul(const float a[16], const float b[16], float out[16]);
+void scene_mat4_madd(const float m[16], float w, const float n[16], float out[16]);
+void scene_linear_part(const float m[16], float out[9]);
+float scene_linear_det(const float m[16]);
+void scene_affine_point(const float m[16], const float p[3], float out[3]);
+void scene_transform_point(const float m[16], const float p[3], float out[3]);
+void scene_trs_to_matrix(const float t[3], const float r[4], const float s[3], float out[16]);
+/* Of the parts where the mark is 0, otherwise m itself. */
+void scene_to_matrix(uint32_t mark, const float t[3], const float r[4], const float s[3], const float m[16], float out[16]);
+/* From three columns. */
+void scene_rot_matrix_to_quat(const float a[3], const float b[3], const float c[3], float out[4]);
+void scene_from_matrix(const float m[16], float t[3], float r[4], float s[3]);
+
+#endif
