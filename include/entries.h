@@ -29,6 +29,9 @@ void scene_trs_to_matrix(const float t[3], const float r[4], const float s[3], f
 void scene_to_matrix(uint32_t mark, const float t[3], const float r[4], const float s[3], const float m[16], float out[16]);
 /* From three columns. */
 void scene_rot_matrix_to_quat(const float a[3], const float b[3], const float c[3], float out[4]);
+uint32_t scene_linear_inverse_transpose(const float m[16], float out[9]);
+uint32_t scene_mat4_affine_inverse(const float m[16], float out[16]);
+uint32_t scene_normal_matrix(const float m[16], float out[9]);
 void scene_from_matrix(const float m[16], float t[3], float r[4], float s[3]);
 
 #endif

@@ -2,7 +2,7 @@
 //! default from the repository's sibling folder `shared`). Six files are
 //! compiled whole, by `#[path]`. Of scene.rs, which names many modules that
 //! are not at hand, the items listed here are cut out by name, so that
-//! nothing of it is typed anew; its functions are made public. So are two
+//! nothing of it is typed anew; its functions are made public. So are three
 //! functions of skinning.rs whose answers no public function shows: they stand
 //! in a module of their own, `parts`, beside skinning.rs as it is.
 
@@ -34,9 +34,10 @@ const SCENE_ITEMS: [&str; 9] = [
     "impl Default for Scene3D {",
 ];
 
-const SCENE_FUNCTIONS: [&str; 5] = [
+const SCENE_FUNCTIONS: [&str; 6] = [
     "fn vec3_len(",
     "pub(crate) fn mat4_mul(",
+    "fn mat3_det_of_world(",
     "pub(crate) fn mat4_affine_inverse(",
     "fn trs_to_matrix(",
     "fn rot_matrix_to_quat(",
@@ -54,7 +55,11 @@ const SCENE_METHODS: [&str; 9] = [
     "pub fn world_node_transforms(",
 ];
 
-const SKINNING_FUNCTIONS: [&str; 2] = ["fn mat4_madd(", "fn linear_det("];
+const SKINNING_FUNCTIONS: [&str; 3] = [
+    "fn mat4_madd(",
+    "fn linear_det(",
+    "fn linear_inverse_transpose(",
+];
 
 fn main() {
     let source = source_folder();

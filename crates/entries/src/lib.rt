@@ -1,7 +1,11 @@
 // The C functions that other languages link (`rt staticlib entries`).
+mod inverses;
 mod leaves;
 mod matrices;
 
+pub use inverses::scene_linear_inverse_transpose;
+pub use inverses::scene_mat4_affine_inverse;
+pub use inverses::scene_normal_matrix;
 pub use leaves::narrow_all;
 pub use leaves::sqrt_all;
 pub use leaves::turn_weight_all;

@@ -1,6 +1,7 @@
 //! Matrices, quaternions and transforms.
 
 mod inputs;
+mod inverses;
 mod products;
 mod rust;
 pub mod speed;
@@ -18,6 +19,7 @@ pub fn compare() -> bool {
         products::compare(),
         transforms::compare(),
         vertices::compare(),
+        inverses::compare(),
     ];
     !equal.contains(&false)
 }

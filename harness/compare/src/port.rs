@@ -104,5 +104,12 @@ pub mod scene {
         pub safe fn rot_matrix_to_quat(a: &Vec3, b: &Vec3, c: &Vec3, out: &mut Quat);
         #[link_name = "scene_from_matrix"]
         pub safe fn from_matrix(m: &Mat4, t: &mut Vec3, r: &mut Quat, s: &mut Vec3);
+        // Each 1 and the result, or 0 with `out` as lent.
+        #[link_name = "scene_linear_inverse_transpose"]
+        pub safe fn linear_inverse_transpose(m: &Mat4, out: &mut Mat3) -> u32;
+        #[link_name = "scene_mat4_affine_inverse"]
+        pub safe fn mat4_affine_inverse(m: &Mat4, out: &mut Mat4) -> u32;
+        #[link_name = "scene_normal_matrix"]
+        pub safe fn normal_matrix(m: &Mat4, out: &mut Mat3) -> u32;
     }
 }

@@ -1,6 +1,6 @@
 //! The original's animation, pose, graph, skin, skinning and transform
 //! modules, unchanged, and of its scene module what these need; `parts` has
-//! two private functions of skinning once more (see build.rs).
+//! three private functions of skinning once more (see build.rs).
 
 include!(concat!(env!("OUT_DIR"), "/modules.rs"));
 

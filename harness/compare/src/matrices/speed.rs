@@ -70,6 +70,13 @@ pub fn measure() {
         |item, (t, r, s)| scene::from_matrix(&item.matrix, t, r, s),
         |item, (t, r, s)| from_matrix(&item.matrix, t, r, s),
     );
+    fill(
+        "mat4_affine_inverse, a call each",
+        &items,
+        (0, ZEROS),
+        |item, (told, out)| *told = scene::mat4_affine_inverse(&item.matrix, out),
+        |item, (told, out)| *told = mat4_affine_inverse(&item.matrix, out),
+    );
 }
 
 /// Measures two ways to make a result of each item, from `start` on.
@@ -115,5 +122,17 @@ fn from_matrix(m: &Mat4, t: &mut Vec3, r: &mut Quat, s: &mut Vec3) {
     } = Transform::from_matrix(*m)
     {
         (*t, *r, *s) = (translation, rotation, scale);
+    }
+}
+
+/// 1 and the inverse, or 0 with `out` as lent.
+#[inline(never)]
+fn mat4_affine_inverse(m: &Mat4, out: &mut Mat4) -> u32 {
+    match rust::mat4_affine_inverse(*m) {
+        Some(inverse) => {
+            *out = inverse;
+            1
+        }
+        None => 0,
     }
 }
