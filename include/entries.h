@@ -34,4 +34,28 @@ uint32_t scene_mat4_affine_inverse(const float m[16], float out[16]);
 uint32_t scene_normal_matrix(const float m[16], float out[9]);
 void scene_from_matrix(const float m[16], float t[3], float r[4], float s[3]);
 
+/* A track lies in a table of floats: kind 0 for Vec3, 1 for Quat, otherwise scalar; interpolation 0 for Step, 1 for
+   Linear, otherwise CubicSpline; where its keys start and how many there are; the same of its values, which are counted by
+   the kind's entries. */
+
+/* A refusal number, or 0, and how many floats were written to `out`. */
+typedef struct {
+    uint32_t number;
+    size_t count;
+} Told;
+
+/* A Vec3 or Quat is written to the start of `value`, weights to the start of `out`; otherwise both are as lent. */
+Told sample_floats(const float *floats, size_t floats_len, uint32_t kind, uint32_t interpolation, size_t keys_at,
+                   size_t keys_count, size_t values_at, size_t values_count, float time, float value[4], float *out,
+                   size_t out_len);
+/* The weights of frame k or, where the mark `rows` is not 0, all three rows, copied as far as there is room. */
+Told frame_floats(const float *floats, size_t floats_len, uint32_t kind, uint32_t interpolation, size_t keys_at,
+                  size_t keys_count, size_t values_at, size_t values_count, uint32_t rows, size_t k, float *out,
+                  size_t out_len);
+/* The weights per frame of an even scalar track, and 0 of any other. */
+size_t stride_floats(const float *floats, size_t floats_len, uint32_t kind, uint32_t interpolation, size_t keys_at,
+                     size_t keys_count, size_t values_at, size_t values_count);
+/* 1 where every key is finite and above the one before, otherwise 0. */
+uint32_t keys_in_line_floats(const float *keys, size_t keys_len);
+
 #endif

@@ -1,2 +1,3 @@
 pub mod Written
 pub mod Handed
+pub mod Tracks

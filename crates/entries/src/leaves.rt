@@ -10,7 +10,7 @@ ghost use Rattle.float.specs.Sqrt.{sqrtOf};
 ghost use Rattle.turn.specs.Weight.{weight};
 ghost use Rattle.entries.specs.Written.{Wrote};
 
-fn least(a: usize, b: usize) -> usize
+pub(crate) fn least(a: usize, b: usize) -> usize
     ensures { λ r. ⌜ r ≡ min a b ⌝ }
 {
     if a < b { a } else { b }

@@ -2,6 +2,7 @@
 mod inverses;
 mod leaves;
 mod matrices;
+mod tracks;
 
 pub use inverses::scene_linear_inverse_transpose;
 pub use inverses::scene_mat4_affine_inverse;
@@ -23,3 +24,8 @@ pub use matrices::scene_to_matrix;
 pub use matrices::scene_transform_point;
 pub use matrices::scene_trs_to_matrix;
 pub use matrices::scene_vec3_len;
+pub use tracks::Told;
+pub use tracks::frame_floats;
+pub use tracks::keys_in_line_floats;
+pub use tracks::sample_floats;
+pub use tracks::stride_floats;

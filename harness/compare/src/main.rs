@@ -5,7 +5,8 @@
 //! cargo run --release -- gate     every comparison; status 1 where an area differs
 //! cargo run --release -- roots    the root on all 2^32 patterns
 //! cargo run --release -- speed    CPU time of both sides
-//! cargo run --release -- list     the Rust's answers, for the replay
+//! cargo run --release -- list     the Rust's answers, for crates/replay; with
+//!                                 the word samples those for crates/replay_samples
 //! ```
 //!
 //! ORACLE_SRC names the folder of the Rust's source and PORT_LIB_DIR that of
@@ -19,6 +20,7 @@ mod measure;
 mod placing;
 mod port;
 mod rng;
+mod sampling;
 mod tally;
 
 use std::{env, io, process::ExitCode};
@@ -27,9 +29,10 @@ use std::{env, io, process::ExitCode};
 type Area = (&'static str, fn() -> bool);
 
 /// From the leaves up.
-const AREAS: [Area; 3] = [
+const AREAS: [Area; 4] = [
     ("leaves", leaves::compare),
     ("matrices", matrices::compare),
+    ("sampling", sampling::compare),
     ("placing", placing::compare),
 ];
 
@@ -41,8 +44,9 @@ fn main() -> io::Result<ExitCode> {
         ["roots"] => return Ok(status(leaves::roots::compare_all())),
         ["speed"] => speed(),
         ["list"] => list::write(&mut io::stdout().lock())?,
+        ["list", "samples"] => sampling::list::write(&mut io::stdout().lock())?,
         _ => {
-            eprintln!("usage: compare gate | roots | speed | list");
+            eprintln!("usage: compare gate | roots | speed | list [samples]");
             return Ok(ExitCode::from(2));
         }
     }
@@ -72,4 +76,5 @@ fn speed() {
     measure::print_heading();
     leaves::speed::measure();
     matrices::speed::measure();
+    sampling::speed::measure();
 }

@@ -1,6 +1,6 @@
 //! Matrices, quaternions and transforms.
 
-mod inputs;
+pub mod inputs;
 mod inverses;
 mod products;
 mod rust;

@@ -27,6 +27,46 @@ mod foreign {
             out_len: usize,
         ) -> usize;
 
+        pub fn sample_floats(
+            floats: *const f32,
+            floats_len: usize,
+            kind: u32,
+            interpolation: u32,
+            keys_at: usize,
+            keys_count: usize,
+            values_at: usize,
+            values_count: usize,
+            time: f32,
+            value: *mut [f32; 4],
+            out: *mut f32,
+            out_len: usize,
+        ) -> super::Told;
+        pub fn frame_floats(
+            floats: *const f32,
+            floats_len: usize,
+            kind: u32,
+            interpolation: u32,
+            keys_at: usize,
+            keys_count: usize,
+            values_at: usize,
+            values_count: usize,
+            rows: u32,
+            k: usize,
+            out: *mut f32,
+            out_len: usize,
+        ) -> super::Told;
+        pub fn stride_floats(
+            floats: *const f32,
+            floats_len: usize,
+            kind: u32,
+            interpolation: u32,
+            keys_at: usize,
+            keys_count: usize,
+            values_at: usize,
+            values_count: usize,
+        ) -> usize;
+        pub fn keys_in_line_floats(keys: *const f32, keys_len: usize) -> u32;
+
         pub fn clock_gettime(clock: i32, time: *mut Timespec) -> i32;
     }
 }
@@ -50,6 +90,94 @@ pub fn turn_weight_all(vs: &[f32], cs: &[f32], out: &mut [f32]) -> usize {
     let (vs, cs, out) = (vs.as_ptr(), cs.as_ptr(), out.as_mut_ptr());
     // SAFETY: see above.
     unsafe { foreign::turn_weight_all(vs, vs_len, cs, cs_len, out, out_len) }
+}
+
+/// A refusal number, or 0, and how many floats were written to the lent slice.
+#[derive(Clone, Copy, Debug, PartialEq)]
+#[repr(C)]
+pub struct Told {
+    pub number: u32,
+    pub count: usize,
+}
+
+/// A track in a table of floats.
+pub struct Track<'a> {
+    pub floats: &'a [f32],
+    /// 0 for Vec3, 1 for Quat, 2 for scalars.
+    pub kind: u32,
+    /// 0 for Step, 1 for Linear, 2 for CubicSpline.
+    pub interpolation: u32,
+    pub keys_at: usize,
+    pub keys_count: usize,
+    pub values_at: usize,
+    /// In entries of the kind.
+    pub values_count: usize,
+}
+
+/// A Vec3 or Quat is written to the start of `value`, weights to that of `out`.
+pub fn sample(track: &Track, time: f32, value: &mut [f32; 4], out: &mut [f32]) -> Told {
+    // SAFETY: the entry reads and writes inside what it is lent, whatever the
+    // numbers say.
+    unsafe {
+        foreign::sample_floats(
+            track.floats.as_ptr(),
+            track.floats.len(),
+            track.kind,
+            track.interpolation,
+            track.keys_at,
+            track.keys_count,
+            track.values_at,
+            track.values_count,
+            time,
+            value,
+            out.as_mut_ptr(),
+            out.len(),
+        )
+    }
+}
+
+/// Copies the weights of frame `k`, or all its three rows, to the start of
+/// `out`.
+pub fn frame(track: &Track, rows: bool, k: usize, out: &mut [f32]) -> Told {
+    // SAFETY: as for `sample`.
+    unsafe {
+        foreign::frame_floats(
+            track.floats.as_ptr(),
+            track.floats.len(),
+            track.kind,
+            track.interpolation,
+            track.keys_at,
+            track.keys_count,
+            track.values_at,
+            track.values_count,
+            u32::from(rows),
+            k,
+            out.as_mut_ptr(),
+            out.len(),
+        )
+    }
+}
+
+/// The weights per frame, or 0 where there are none.
+pub fn stride(track: &Track) -> usize {
+    // SAFETY: as for `sample`.
+    unsafe {
+        foreign::stride_floats(
+            track.floats.as_ptr(),
+            track.floats.len(),
+            track.kind,
+            track.interpolation,
+            track.keys_at,
+            track.keys_count,
+            track.values_at,
+            track.values_count,
+        )
+    }
+}
+
+pub fn keys_in_line(keys: &[f32]) -> bool {
+    // SAFETY: the entry reads the keys alone.
+    unsafe { foreign::keys_in_line_floats(keys.as_ptr(), keys.len()) == 1 }
 }
 
 /// CPU time of this process so far, in nanoseconds.

@@ -1,0 +1,116 @@
+//! The speed of `sample`. The port checks the keys at each call, which the Rust
+//! does not: it is measured alone, and once more with the check that its track
+//! builders make.
+
+use super::tracks::{factor, keys_in_line, Track};
+use crate::{
+    matrices::inputs::unit_quaternion,
+    measure::side_by_side,
+    port::{self, Quat},
+    rng::Rng,
+};
+use oracle::{AnimationSampler, AnimationValues, Interpolation, SampledValue};
+use std::{array::from_fn, hint::black_box, iter::repeat_with};
+
+const WEIGHTS: usize = 64;
+
+/// Keys of a track, and how many times it is sampled at in one go.
+const LENGTHS: [(usize, usize); 2] = [(64, 1024), (65_535, 16)];
+
+type Maker = fn(&mut Rng, usize) -> AnimationValues;
+
+const SORTS: [(&str, Interpolation, Maker); 3] = [
+    ("vec3 Linear", Interpolation::Linear, vectors),
+    ("quat Linear", Interpolation::Linear, turns),
+    ("64 weights Cubic", Interpolation::CubicSpline, weights),
+];
+
+pub fn measure() {
+    for (keys, times) in LENGTHS {
+        for (name, interpolation, values) in SORTS {
+            let mut rng = Rng::new(1);
+            let sampler = AnimationSampler {
+                keyframes: (0..keys).map(|k| k as f32 / 32.0).collect(),
+                values: values(&mut rng, keys * factor(interpolation)),
+                interpolation,
+            };
+            let track = Track::new(sampler, &mut rng);
+            let end = (keys - 1) as f32 / 32.0;
+            let times: Vec<f32> = repeat_with(|| end * rng.unit()).take(times).collect();
+            measure_track(&format!("{keys} keys, {name}"), &track, &times);
+        }
+        measure_keys(keys);
+    }
+}
+
+fn measure_track(name: &str, track: &Track, times: &[f32]) {
+    let lent = track.of_port();
+    let (mut value, mut out) = ([0.0; 4], [0.0; WEIGHTS]);
+    let mut by_port = || {
+        for time in times {
+            black_box(port::sample(
+                &lent,
+                *time,
+                black_box(&mut value),
+                black_box(&mut out),
+            ));
+        }
+    };
+    side_by_side(name, times.len(), &mut by_port, || {
+        for time in times {
+            black_box(sample(&track.sampler, *time));
+        }
+    });
+    side_by_side(
+        "  and the Rust checks the keys",
+        times.len(),
+        by_port,
+        || {
+            for time in times {
+                black_box(checked_sample(&track.sampler, *time));
+            }
+        },
+    );
+}
+
+fn measure_keys(count: usize) {
+    let keys: Vec<f32> = (0..count).map(|k| k as f32 / 32.0).collect();
+    side_by_side(
+        &format!("keys_in_line, {count} keys, per key"),
+        count,
+        || {
+            black_box(port::keys_in_line(black_box(&keys)));
+        },
+        || {
+            black_box(keys_in_line(black_box(&keys)));
+        },
+    );
+}
+
+#[inline(never)]
+fn sample(sampler: &AnimationSampler, time: f32) -> Option<SampledValue> {
+    sampler.sample(time)
+}
+
+#[inline(never)]
+fn checked_sample(sampler: &AnimationSampler, time: f32) -> Option<SampledValue> {
+    if !keys_in_line(black_box(&sampler.keyframes)) {
+        return None;
+    }
+    sampler.sample(time)
+}
+
+fn vectors(rng: &mut Rng, count: usize) -> AnimationValues {
+    let vector = || from_fn(|_| rng.signed_unit());
+    AnimationValues::Vec3(repeat_with(vector).take(count).collect())
+}
+
+fn turns(rng: &mut Rng, count: usize) -> AnimationValues {
+    let turns: Vec<Quat> = repeat_with(|| unit_quaternion(rng)).take(count).collect();
+    AnimationValues::Quat(turns)
+}
+
+fn weights(rng: &mut Rng, count: usize) -> AnimationValues {
+    let weight = || rng.signed_unit();
+    AnimationValues::Scalar(repeat_with(weight).take(WEIGHTS * count).collect())
+}
