@@ -46,6 +46,10 @@ pub fn measure() {
 fn measure_track(name: &str, track: &Track, times: &[f32]) {
     let lent = track.of_port();
     let (mut value, mut out) = ([0.0; 4], [0.0; WEIGHTS]);
+    for time in times {
+        let told = port::sample(&lent, *time, &mut value, &mut out);
+        assert_eq!(told.number, 0, "{name}: the speed of a refusal");
+    }
     let mut by_port = || {
         for time in times {
             black_box(port::sample(
