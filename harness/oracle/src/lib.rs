@@ -14,12 +14,3 @@ pub use pose::Pose;
 pub use scene::*;
 pub use skin::{Skeleton, Skin};
 pub use stubs::{audio, camera, light, material, serde_json, texture};
-
-/// `world_mesh_at` from a given pose: the original's steps and its choice of
-/// weights, with the sampling left out.
-pub fn bake_from_pose(scene: &Scene3D, pose: &Pose, node: NodeId) -> Option<Mesh> {
-    let worlds = scene.posed_node_transforms(pose);
-    let posed = pose.morph_weights.get(node.0 as usize);
-    let weights = posed.and_then(|w| w.as_deref());
-    scene.world_mesh_impl(node, &worlds, weights)
-}
