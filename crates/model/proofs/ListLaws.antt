@@ -48,3 +48,9 @@ by-entries d l n h = sym (whole l n h) ∙ part-entries d l 0 n (omega arith)
   where
     whole : {A : Type 0} (l : List A) (n : ℕ) → length l ≡ n → take n l ≡ l
     whole l n h = take-all n l (omega arith)
+
+-- an entry that is there does not depend on the default
+pub same-entry : {A : Type 0} (l : List A) (i : ℕ) (d e : A) → i < length l → getD l i d ≡ getD l i e
+same-entry [] i d e h = absurd (omega arith)
+same-entry (x ∷ xs) zero d e h = refl
+same-entry (x ∷ xs) (suc i) d e h = same-entry xs i d e (omega arith)

@@ -2,7 +2,7 @@
 use mathlib.Core.List.{List, [], _∷_, _++_}
 use mathlib.Core.Bool.{Bool, true, false, _&&_, _||_}
 use mathlib.Core.Option.{Option, none, some}
-use Prim.Native.Nat.{ℕ, zero, suc, _+_, _*_}
+use Prim.Native.Nat.{ℕ, zero, suc, _+_, _*_, _/_}
 use lib.ListN.{length, getD, take, drop}
 
 abbrev pub pick : {A : Type 0} → Bool → A → A → A
@@ -57,6 +57,10 @@ part l at n = take n (drop at l)
 -- row i of a list in rows of n
 abbrev pub row : {A : Type 0} → ℕ → List A → ℕ → List A
 row n l i = part l (i * n) n
+
+-- the whole rows of n; entries past the last one are left out
+unfoldable pub rowsIn : {A : Type 0} → ℕ → List A → List (List A)
+rowsIn n l = tabulate (length l / n) (row n l)
 
 abbrev pub isSome : {A : Type 0} → Option A → Bool
 isSome (some a) = true

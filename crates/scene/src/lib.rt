@@ -17,6 +17,7 @@ pub use matrices::mat4_madd;
 pub use matrices::mat4_mul;
 pub use matrices::store;
 pub use matrices::transform_point;
+pub use transforms::entries_of;
 pub use transforms::from_matrix;
 pub use transforms::rot_matrix_to_quat;
 pub use transforms::to_matrix;

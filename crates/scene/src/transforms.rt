@@ -55,6 +55,30 @@ pub fn trs_to_matrix(p: Trs) -> Mat4
     }
 }
 
+// A matrix by its entries.
+pub fn entries_of(m: Mat4) -> Entries
+    ensures { λ r. ⌜ mat4 r ≡ m .m ⌝ }
+{
+    Entries {
+        m00: m.m[0],
+        m01: m.m[1],
+        m02: m.m[2],
+        m03: m.m[3],
+        m10: m.m[4],
+        m11: m.m[5],
+        m12: m.m[6],
+        m13: m.m[7],
+        m20: m.m[8],
+        m21: m.m[9],
+        m22: m.m[10],
+        m23: m.m[11],
+        m30: m.m[12],
+        m31: m.m[13],
+        m32: m.m[14],
+        m33: m.m[15],
+    }
+}
+
 pub(crate) fn entries_to_matrix(e: Entries) -> Mat4
     ensures { λ r. ⌜ r .m ≡ mat4 e ⌝ }
 {

@@ -1,0 +1,163 @@
+use crate::ChannelRow;
+use crate::InBetweenRow;
+use crate::MeshRow;
+use crate::NodeRow;
+use crate::PrimitiveRow;
+use crate::Reference;
+use crate::SkeletonRow;
+use crate::SkinRow;
+use crate::Slot;
+use crate::TargetRow;
+use animation::Part;
+ghost use mathlib.Core.Path.{_≡_};
+ghost use Prim.Native.Nat.{_+_, _*_, _<_};
+ghost use Rattle.tables.specs.Records.{wordOf, partOf, slotOf, referenceOf, nodeRow, channelRow, meshRow, primitiveRow, targetRow, inBetweenRow, skinRow, skeletonRow};
+
+fn wide(x: u32) -> usize
+    ensures { λ r. ⌜ r ≡ x ⌝ }
+{
+    x as usize
+}
+
+// Word k of record i in a table of records of so many words; 0 where `words` has none.
+fn word(words: &[u32], t: Part, stride: usize, i: usize, k: usize) -> u32
+    requires { ⌜ 0 < stride ⌝ }
+    ensures { λ r. ⌜ r ≡ wordOf (now (words .entry)) t stride i k ⌝ }
+{
+    let at = t.at;
+    let len = words.len();
+    if at <= len {
+        if i <= (len - at) / stride {
+            let start = at + i * stride;
+            if k < len - start {
+                return words[start + k];
+            }
+        }
+    }
+    0
+}
+
+fn part(words: &[u32], t: Part, stride: usize, i: usize, k: usize) -> Part
+    requires { ⌜ (0 < stride) × (k < 16) ⌝ }
+    ensures { λ r. ⌜ r ≡ partOf (now (words .entry)) t stride i k ⌝ }
+{
+    Part {
+        at: wide(word(words, t, stride, i, k)),
+        count: wide(word(words, t, stride, i, k + 1)),
+    }
+}
+
+fn slot(words: &[u32], t: Part, stride: usize, i: usize, k: usize) -> Slot
+    requires { ⌜ (0 < stride) × (k < 15) ⌝ }
+    ensures { λ r. ⌜ r ≡ slotOf (now (words .entry)) t stride i k ⌝ }
+{
+    Slot {
+        mark: word(words, t, stride, i, k),
+        part: part(words, t, stride, i, k + 1),
+    }
+}
+
+fn reference(words: &[u32], t: Part, stride: usize, i: usize, k: usize) -> Reference
+    requires { ⌜ (0 < stride) × (k < 16) ⌝ }
+    ensures { λ r. ⌜ r ≡ referenceOf (now (words .entry)) t stride i k ⌝ }
+{
+    Reference {
+        mark: word(words, t, stride, i, k),
+        id: word(words, t, stride, i, k + 1),
+    }
+}
+
+// Record i of the nodes.
+pub fn node_row(words: &[u32], t: Part, i: usize) -> NodeRow
+    ensures { λ r. ⌜ r ≡ nodeRow (now (words .entry)) t i ⌝ }
+{
+    NodeRow {
+        form: word(words, t, 16, i, 0),
+        base: wide(word(words, t, 16, i, 1)),
+        children: part(words, t, 16, i, 2),
+        mesh: reference(words, t, 16, i, 4),
+        skin: reference(words, t, 16, i, 6),
+        weights: slot(words, t, 16, i, 8),
+    }
+}
+
+// Record i of the channels.
+pub fn channel_row(words: &[u32], t: Part, i: usize) -> ChannelRow
+    ensures { λ r. ⌜ r ≡ channelRow (now (words .entry)) t i ⌝ }
+{
+    ChannelRow {
+        target: word(words, t, 8, i, 0),
+        property: word(words, t, 8, i, 1),
+        kind: word(words, t, 8, i, 2),
+        interpolation: word(words, t, 8, i, 3),
+        keys: part(words, t, 8, i, 4),
+        values: part(words, t, 8, i, 6),
+    }
+}
+
+// Record i of the meshes.
+pub fn mesh_row(words: &[u32], t: Part, i: usize) -> MeshRow
+    ensures { λ r. ⌜ r ≡ meshRow (now (words .entry)) t i ⌝ }
+{
+    MeshRow {
+        primitives: part(words, t, 4, i, 0),
+        weights: part(words, t, 4, i, 2),
+    }
+}
+
+// Record i of the primitives.
+pub fn primitive_row(words: &[u32], t: Part, i: usize) -> PrimitiveRow
+    ensures { λ r. ⌜ r ≡ primitiveRow (now (words .entry)) t i ⌝ }
+{
+    PrimitiveRow {
+        positions: part(words, t, 16, i, 0),
+        normals: slot(words, t, 16, i, 2),
+        tangents: slot(words, t, 16, i, 5),
+        joints: slot(words, t, 16, i, 8),
+        weights: slot(words, t, 16, i, 11),
+        targets: part(words, t, 16, i, 14),
+    }
+}
+
+// Record i of the morph targets.
+pub fn target_row(words: &[u32], t: Part, i: usize) -> TargetRow
+    ensures { λ r. ⌜ r ≡ targetRow (now (words .entry)) t i ⌝ }
+{
+    TargetRow {
+        positions: slot(words, t, 12, i, 0),
+        normals: slot(words, t, 12, i, 3),
+        tangents: slot(words, t, 12, i, 6),
+        in_betweens: part(words, t, 12, i, 9),
+    }
+}
+
+// Record i of the in-betweens.
+pub fn in_between_row(words: &[u32], t: Part, i: usize) -> InBetweenRow
+    ensures { λ r. ⌜ r ≡ inBetweenRow (now (words .entry)) t i ⌝ }
+{
+    InBetweenRow {
+        weight: wide(word(words, t, 8, i, 0)),
+        positions: slot(words, t, 8, i, 1),
+        normals: slot(words, t, 8, i, 4),
+    }
+}
+
+// Record i of the skins.
+pub fn skin_row(words: &[u32], t: Part, i: usize) -> SkinRow
+    ensures { λ r. ⌜ r ≡ skinRow (now (words .entry)) t i ⌝ }
+{
+    SkinRow {
+        skeleton: word(words, t, 4, i, 0),
+        root: reference(words, t, 4, i, 1),
+    }
+}
+
+// Record i of the skeletons.
+pub fn skeleton_row(words: &[u32], t: Part, i: usize) -> SkeletonRow
+    ensures { λ r. ⌜ r ≡ skeletonRow (now (words .entry)) t i ⌝ }
+{
+    SkeletonRow {
+        joints: part(words, t, 4, i, 0),
+        inverse_binds: part(words, t, 4, i, 2),
+    }
+}
