@@ -18,3 +18,5 @@ pub mod Located
 pub mod Sampled
 pub mod Ancestors
 pub mod Shared
+pub mod Differences
+pub mod Turns

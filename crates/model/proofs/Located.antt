@@ -107,9 +107,9 @@ not-nan nan h = sym h
 not-nan (inf s) h = refl
 not-nan (fin s m e) h = refl
 
-first-number : (x : Float) (xs : List Float) → inLine (x ∷ xs) ≡ true → isNan x ≡ false
+first-finite : (x : Float) (xs : List Float) → inLine (x ∷ xs) ≡ true → finite x ≡ true
 unfolding inLine
-first-number x xs h = not-nan x (both (finite x) (rising x xs) h .0)
+first-finite x xs h = both (finite x) (rising x xs) h .0
 
 second-in-line : (x y : Float) (ys : List Float) → inLine (x ∷ y ∷ ys) ≡ true → (lt x y ≡ true) × (inLine (y ∷ ys) ≡ true)
 unfolding inLine rising
@@ -137,7 +137,7 @@ located keys t n line = record {
   inRange = locate-in-range keys t;
   holds =
       by-keys t (λ (l : List Float) (w : Where). inLine l ≡ true → Holds l t w) (λ h b. absurd (omega arith)) (λ x xs p h. p) (λ x xs p h. p)
-      (λ x xs w p q r h. later-holds x xs t w (trichotomy t x n (first-number x xs h) p q) (r (rest-in-line x xs h)))
+      (λ x xs w p q r h. later-holds x xs t w (trichotomy t x n (not-nan x (first-finite x xs h)) p q) (r (rest-in-line x xs h)))
       keys line;
 }
 
@@ -171,14 +171,26 @@ located-unique {keys} {t} {w} line h = unique t keys w line (h .inRange) (h .hol
 
 -- ---- the places by name
 
-key-number : (keys : List Float) → inLine keys ≡ true → (k : ℕ) → k < length keys → isNan (key keys k) ≡ false
-key-number [] l k b = absurd (omega arith)
-key-number (x ∷ xs) l zero b = first-number x xs l
-key-number (x ∷ xs) l (suc k) b = key-number xs (rest-in-line x xs l) k (omega arith)
+-- a NaN is neither below nor on any key
+nan-after : (k : ℕ) (keys : List Float) → locateFrom k keys nan ≡ after
+unfolding locateFrom lt eq
+nan-after k [] = refl
+nan-after k (x ∷ xs) = nan-after (suc k) xs
+
+pub between-number : (keys : List Float) (t : Float) (k : ℕ) → locate keys t ≡ between k → isNan t ≡ false
+unfolding locate isNan
+between-number keys nan k h = let n = nan-after 0 keys in cc
+between-number keys (inf s) k h = refl
+between-number keys (fin s m e) k h = refl
+
+pub key-finite : (keys : List Float) → inLine keys ≡ true → (k : ℕ) → k < length keys → finite (key keys k) ≡ true
+key-finite [] l k b = absurd (omega arith)
+key-finite (x ∷ xs) l zero b = first-finite x xs l
+key-finite (x ∷ xs) l (suc k) b = key-finite xs (rest-in-line x xs l) k (omega arith)
 
 module _ (keys : List Float) (line : inLine keys ≡ true) where
   pub located-on : (k : ℕ) → k < length keys → locate keys (key keys k) ≡ on k
-  located-on k b = located-unique line (record { inRange = b; holds = eq-self (key keys k) (key-number keys line k b) })
+  located-on k b = located-unique line (record { inRange = b; holds = eq-self (key keys k) (not-nan (key keys k) (key-finite keys line k b)) })
 
   module _ (t : Float) where
     pub located-before : 0 < length keys → lt t (key keys 0) ≡ true → locate keys t ≡ before

@@ -1,18 +1,19 @@
 -- The order of floats as the order of ratios: `over x` / `under x` rises with x, from 0 / 1 at minus infinity through 1 / 1 at zero to 1 / 0
 -- at infinity. Assumes nothing.
 use mathlib.Core.Path.{_≡_, refl, sym, ap, _∙_}
-use mathlib.Core.Bool.{Bool, true, false, not, _&&_, and-true, and-false, and-comm, true≢false}
+use mathlib.Core.Bool.{Bool, true, false, not, _&&_, _||_, or-true, and-true, and-false, and-comm, true≢false}
 use mathlib.Core.Logic.{_≢_, _⊎_, inl, inr}
 use Prim.Native.Nat.{ℕ, _+_, _*_, _≤_, _<_}
 use native.Mathlib.Nat.{eq-zero-or-pos, le-of-lt, le-of-eq, ne-of-gt, add-mul, mul-add, mul-comm, mul-assoc, mul-left-comm, mul-pos, mul-lt-mul-of-pos-right, mul-le-mul, le-add-left, mul-le-mul-right, lt-of-mul-lt-mul-right}
 use native.Mathlib.Decide.{decLt, ℕ-discrete}
 use native.Mathlib.Omega.{arith}
 use borrow.Author.Tests.{ltb-true, ltb-false, lt-ltb, le-ltb, eqb-true, eqb-false, eq-eqb, ne-eqb, not-true}
-use lib.Dec.{ltb, eqb}
+use lib.Dec.{T, ltb, eqb}
 use lib.IntN.{ℤ}
-use lib.Ieee.{Float, nan, inf, fin, up, down, lt, eq, isNan}
+use lib.Ieee.{Float, nan, inf, fin, up, down, lt, eq, le, isNan}
 use lib.Ieee.Fits.{down-pos}
 use lib.Ieee.Positive.{first-pos}
+use lib.Ieee.Scale.{finite}
 use Rattle.model.proofs.Tests.{both}
 
 abbrev over : Float → ℕ
@@ -162,6 +163,15 @@ module _ (x y : Float) where
   pub eq-sym : eq x y ≡ eq y x
   eq-sym = compared x y .1 ∙ (λ i. and-comm (not (isNan x)) (not (isNan y)) i && eqb-sym (over x * under y) (over y * under x) i) ∙ sym (compared y x .1)
 
+  -- not below: above or equal
+  pub le-of-not-lt : isNan x ≡ false → isNan y ≡ false → lt x y ≡ false → T (le y x)
+  unfolding le
+  le-of-not-lt p q h = go (eq x y) refl
+    where
+      go : (b : Bool) → eq x y ≡ b → T (lt y x || eq y x)
+      go true e = rw (← eq-sym, e, or-true) tt
+      go false e = rw (trichotomy p q h e) tt
+
   -- and y is not above z
   onward : lt x y ≡ true → (z : Float) → over y * under z ≤ over z * under y → 0 < over z + under z → lt x z ≡ true
   onward h z k n = compared x z .0 ∙ lt-ltb _ _ (through (over x) (under x) (over y) (under y) (over z) (under z) (below h) k n)
@@ -178,3 +188,10 @@ lt-eq-trans x y z h k =
 
 pub eq-self : (x : Float) → isNan x ≡ false → eq x x ≡ true
 eq-self x h = numbers-eq x x h h ∙ eq-eqb (over x * under x) (over x * under x) refl
+
+-- what lies between two floats is no infinity
+pub between-finite : (x y z : Float) → lt x y ≡ true → lt y z ≡ true → finite y ≡ true
+between-finite x nan z h k = absurd (omega (arith, below nan z k))
+between-finite x (inf true) z h k = absurd (omega (arith, below x (inf true) h))
+between-finite x (inf false) z h k = absurd (omega (arith, below (inf false) z k))
+between-finite x (fin s m e) z h k = refl

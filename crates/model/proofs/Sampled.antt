@@ -38,7 +38,7 @@ module _ (t : Track) (isEven : even t ≡ true) where
       go linear h = omega arith
       go cubicSpline h = omega arith
 
-  sample-at : (time : Float) {w : Where} → locate (t .keys) time ≡ w → sample t time ≡ some (valueAt t time w)
+  pub sample-at : (time : Float) {w : Where} → locate (t .keys) time ≡ w → sample t time ≡ some (valueAt t time w)
   unfolding sample
   sample-at time h = λ i. pick (isEven i) (some (valueAt t time (h i))) none
 

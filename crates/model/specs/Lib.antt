@@ -18,3 +18,4 @@ pub mod Calls
 pub mod Bake
 pub mod Agree
 pub mod Starred
+pub mod Turns
