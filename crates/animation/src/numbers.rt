@@ -29,8 +29,8 @@ fn lies_in(floats: &[f32], t: Track) -> bool
     let keys = t.keys;
     let values = t.values;
     let kind = t.kind;
-    if fits(keys.at, keys.count, 1, floats.len()) {
-        return fits(values.at, values.count, width(kind), floats.len());
+    if fits(keys, 1, floats.len()) {
+        return fits(values, width(kind), floats.len());
     }
     false
 }
@@ -46,7 +46,7 @@ fn weights_over(kind: Kind, stride: usize) -> bool
 }
 
 // What the table draws: 1 where keys or values leave it, 2 where a limit is passed, otherwise 0.
-pub(crate) fn table_number(floats: &[f32], t: Track) -> u32
+pub fn table_number(floats: &[f32], t: Track) -> u32
     ensures { λ r. ⌜ r ≡ tableNumber (now (floats .entry)) t ⌝ }
 {
     if lies_in(floats, t) {

@@ -1,0 +1,155 @@
+use crate::Sizes;
+use crate::Table;
+use crate::records::drawn;
+use crate::records::lower;
+use crate::records::rows_number;
+use crate::records::table_of;
+use animation::Part;
+use tables::Header;
+ghost use mathlib.Core.Path.{_≡_};
+ghost use Prim.Native.Nat.{_+_, min};
+ghost use lib.ListN.{length};
+ghost use Rattle.checks.specs.Drawn.{recordWords, countWithin, tableNumber, wholeNumber, childrenNumber, rootsNumber, sumBelow, childCount, listedNumber, tablesNumber, sizesOf, lentAs};
+
+// The words of a record.
+fn record_words(k: Table) -> usize
+    ensures { λ r. ⌜ r ≡ recordWords k ⌝ }
+{
+    match k {
+        Table::Nodes => 16,
+        Table::Channels => 8,
+        Table::Meshes => 4,
+        Table::Primitives => 16,
+        Table::Targets => 12,
+        Table::InBetweens => 8,
+        Table::Skins => 4,
+        Table::Skeletons => 4,
+    }
+}
+
+fn count_within(k: Table, count: usize) -> bool
+    ensures { λ r. ⌜ r ≡ countWithin k count ⌝ }
+{
+    match k {
+        Table::Nodes => count <= 1024,
+        Table::Channels => count <= 1024,
+        Table::Meshes => true,
+        Table::Primitives => true,
+        Table::Targets => true,
+        Table::InBetweens => true,
+        Table::Skins => true,
+        Table::Skeletons => true,
+    }
+}
+
+// What a table draws by its place and its count alone.
+fn table_number(len: usize, t: Part, k: Table) -> u32
+    ensures { λ r. ⌜ r ≡ tableNumber len t k ⌝ }
+{
+    drawn(
+        animation::fits(t, record_words(k), len),
+        count_within(k, t.count),
+    )
+}
+
+// What a table with its records draws. Records are looked at only where the table has them.
+fn whole_number(words: &[u32], floats: &[f32], s: Sizes, h: Header, k: Table) -> u32
+    ensures { λ r. ⌜ r ≡ wholeNumber (now (words .entry)) (now (floats .entry)) s h k ⌝ }
+{
+    let t = table_of(h, k);
+    let number = table_number(words.len(), t, k);
+    if number == 1 {
+        return 1;
+    }
+    lower(number, rows_number(words, floats, s, t, k))
+}
+
+fn capped(sum: usize, count: usize) -> usize
+    ensures { λ r. ⌜ r ≡ min (sum + count) 8193 ⌝ }
+{
+    if sum < 8193 {
+        if count < 8193 - sum {
+            return sum + count;
+        }
+    }
+    8193
+}
+
+// The child entries of all nodes, an entry counted as often as it is listed; 8193 where there are more.
+pub fn child_entries(words: &[u32], nodes: Part) -> usize
+    ensures { λ r. ⌜ r ≡ min (sumBelow (nodes .count) (childCount (now (words .entry)) nodes)) 8193 ⌝ }
+{
+    let count = nodes.count;
+    let mut sum: usize = 0;
+    let mut i: usize = 0;
+    while i < count {
+        let row = tables::node_row(words, nodes, i);
+        let children = row.children;
+        sum = capped(sum, children.count);
+        i += 1;
+    }
+    sum
+}
+
+fn children_number(words: &[u32], nodes: Part) -> u32
+    ensures { λ r. ⌜ r ≡ childrenNumber (now (words .entry)) nodes ⌝ }
+{
+    if child_entries(words, nodes) <= 8192 {
+        return 0;
+    }
+    2
+}
+
+fn roots_number(len: usize, roots: Part) -> u32
+    ensures { λ r. ⌜ r ≡ rootsNumber len roots ⌝ }
+{
+    let count = roots.count;
+    drawn(animation::fits(roots, 1, len), count <= 1024)
+}
+
+// What all tables but the nodes draw.
+fn listed_number(words: &[u32], floats: &[f32], s: Sizes, h: Header) -> u32
+    ensures { λ r. ⌜ r ≡ listedNumber (now (words .entry)) (now (floats .entry)) s h ⌝ }
+{
+    let skeletons = whole_number(words, floats, s, h, Table::Skeletons);
+    let skins = lower(whole_number(words, floats, s, h, Table::Skins), skeletons);
+    let between = lower(whole_number(words, floats, s, h, Table::InBetweens), skins);
+    let targets = lower(whole_number(words, floats, s, h, Table::Targets), between);
+    let shapes = lower(
+        whole_number(words, floats, s, h, Table::Primitives),
+        targets,
+    );
+    let meshes = lower(whole_number(words, floats, s, h, Table::Meshes), shapes);
+    lower(whole_number(words, floats, s, h, Table::Channels), meshes)
+}
+
+// The number of the tables: the lowest that applies to anything that is lent.
+pub fn tables_number(
+    words: &[u32],
+    floats: &[f32],
+    node_weights: &[f32],
+    mesh_weights: &[f32],
+    h: Header,
+) -> u32
+    ensures { λ r. ⌜ r ≡ tablesNumber (lentAs (now (words .entry)) (now (floats .entry)) (now («node_weights» .entry)) (now («mesh_weights» .entry)) h) ⌝ }
+{
+    let graph = h.graph;
+    let meshes = h.meshes;
+    let s = Sizes {
+        words: words.len(),
+        floats: floats.len(),
+        node_weights: node_weights.len(),
+        mesh_weights: mesh_weights.len(),
+        primitives: meshes.primitives.count,
+        targets: meshes.targets.count,
+        in_betweens: meshes.in_betweens.count,
+    };
+    let nodes = whole_number(words, floats, s, h, Table::Nodes);
+    if nodes == 1 {
+        return 1;
+    }
+    let children = children_number(words, graph.nodes);
+    let roots = roots_number(words.len(), graph.roots);
+    let listed = listed_number(words, floats, s, h);
+    lower(nodes, lower(children, lower(roots, listed)))
+}
