@@ -9,24 +9,29 @@ use Rattle.checks.specs.Drawn.{lowerOf, lowestBelow, sumBelow}
 
 -- ---- the lower of two
 pub first-none : (a b : ℕ) → a ≡ 0 → b ≡ lowerOf a b
+unfolding lowerOf
 first-none a b e = ap (λ (x : ℕ). lowerOf x b) (sym e)
 
 pub second-none : (a b : ℕ) → (a ≡ 0 → ⊥) → b ≡ 0 → a ≡ lowerOf a b
+unfolding lowerOf
 second-none zero b h e = absurd (h refl)
 second-none (suc a) b h e = ap (lowerOf (suc a)) (sym e)
 
 pub first-lower : (a b : ℕ) → (a ≡ 0 → ⊥) → (b ≡ 0 → ⊥) → a < b → a ≡ lowerOf a b
+unfolding lowerOf
 first-lower zero b h g l = absurd (h refl)
 first-lower (suc a) zero h g l = absurd (g refl)
 first-lower (suc a) (suc b) h g l = ap (λ t. pick t (suc a) (suc b)) (sym (lt-ltb (suc a) (suc b) l))
 
 pub second-lower : (a b : ℕ) → (a ≡ 0 → ⊥) → (b ≡ 0 → ⊥) → b ≤ a → b ≡ lowerOf a b
+unfolding lowerOf
 second-lower zero b h g l = absurd (h refl)
 second-lower (suc a) zero h g l = absurd (g refl)
 second-lower (suc a) (suc b) h g l = ap (λ t. pick t (suc a) (suc b)) (sym (le-ltb (suc a) (suc b) l))
 
 -- nothing is below 1
 pub one-first : (a b : ℕ) → a ≡ 1 → 1 ≡ lowerOf a b
+unfolding lowerOf
 one-first a zero e = sym (ap (λ (x : ℕ). lowerOf x 0) e)
 one-first a (suc zero) e = sym (ap (λ (x : ℕ). lowerOf x 1) e)
 one-first a (suc (suc b)) e = ap (λ t. pick t 1 (suc (suc b))) (sym (lt-ltb 1 (suc (suc b)) (omega arith))) ∙ sym (ap (λ (x : ℕ). lowerOf x (suc (suc b))) e)

@@ -24,11 +24,11 @@ use Rattle.checks.specs.Bounds.{nodeWithin, tagsKnown, meshWithin, primi
 -- ---- numbers
 
 -- 1 where something leaves its table, otherwise 2 where it is not within its limits
-abbrev pub drawn : Bool → Bool → ℕ
+unfoldable pub drawn : Bool → Bool → ℕ
 drawn fits within = pick fits (pick within 0 (number overLimit)) (number outOfTable)
 
 -- the lower of two, 0 being none
-abbrev pub lowerOf : ℕ → ℕ → ℕ
+unfoldable pub lowerOf : ℕ → ℕ → ℕ
 lowerOf zero b = b
 lowerOf (suc a) zero = suc a
 lowerOf (suc a) (suc b) = pick (ltb (suc a) (suc b)) (suc a) (suc b)

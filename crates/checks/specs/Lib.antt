@@ -1,3 +1,4 @@
 pub mod Places
 pub mod Bounds
 pub mod Drawn
+pub mod Checked

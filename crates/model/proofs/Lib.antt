@@ -20,3 +20,4 @@ pub mod Ancestors
 pub mod Shared
 pub mod Differences
 pub mod Turns
+pub mod Alike

@@ -1,9 +1,10 @@
 -- Lengths and entries of lists that are made entry by entry, and a list by its first entries. Assumes nothing.
 use mathlib.Core.Path.{_≡_, refl, sym, ap, _∙_}
 use mathlib.Core.List.{List, [], _∷_, zipWith}
+use mathlib.Core.Option.{none, some}
 use Prim.Native.Nat.{ℕ, zero, suc, _+_, _≤_, _<_, min}
 use native.Mathlib.Omega.{arith}
-use lib.ListN.{length, getD, take, drop}
+use lib.ListN.{length, getD, getElem?, take, drop}
 use lib.Seq.{drop-cons, take-all}
 use Rattle.model.specs.Lists.{tabulate}
 
@@ -17,6 +18,19 @@ unfolding tabulate
 getD-tabulate zero f i d h = absurd (omega arith)
 getD-tabulate (suc n) f zero d h = refl
 getD-tabulate (suc n) f (suc i) d h = getD-tabulate n (λ j. f (suc j)) i d (omega arith)
+
+-- an entry of a tabulated list, if it is there
+pub entry-there : {A : Type 0} (n : ℕ) (f : ℕ → A) (i : ℕ) → i < n → getElem? (tabulate n f) i ≡ some (f i)
+unfolding tabulate
+entry-there zero f i h = absurd (omega arith)
+entry-there (suc n) f zero h = refl
+entry-there (suc n) f (suc i) h = entry-there n (λ j. f (suc j)) i (omega arith)
+
+pub entry-past : {A : Type 0} (n : ℕ) (f : ℕ → A) (i : ℕ) → n ≤ i → getElem? (tabulate n f) i ≡ none
+unfolding tabulate
+entry-past zero f i h = refl
+entry-past (suc n) f zero h = absurd (omega arith)
+entry-past (suc n) f (suc i) h = entry-past n (λ j. f (suc j)) i (omega arith)
 
 pub length-zip : {A B C : Type 0} (g : A → B → C) (xs : List A) (ys : List B) → length (zipWith g xs ys) ≡ min (length xs) (length ys)
 unfolding zipWith

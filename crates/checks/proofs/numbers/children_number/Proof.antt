@@ -15,13 +15,13 @@ sum : tie.Start → ℕ
 sum s = sumBelow (s .args .nodes .count) (childCount (now (s .args .words)) (s .args .nodes))
 
 returns : tie.Need-returns
-unfolding childrenNumber sum
+unfolding childrenNumber drawn sum
 returns c =
     let s = c .before .before .before in
     ap (drawn true) (sym (le-leb (sum s) 8192 (omega (arith, c .before .child-entries .ensures, c .if1 .taken))))
 
 returns-2 : tie.Need-returns-2
-unfolding childrenNumber sum
+unfolding childrenNumber drawn sum
 returns-2 c =
     let s = c .before .before .before in
     ap (drawn true) (sym (lt-leb (sum s) 8192 (omega (arith, c .before .child-entries .ensures, c .if1 .left))))
