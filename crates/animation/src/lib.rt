@@ -18,6 +18,7 @@ pub use frames::morph_weight_cubic_frame;
 pub use frames::morph_weight_frame;
 pub use frames::morph_weight_stride;
 pub use keys::keys_in_line;
+pub use numbers::lies_in;
 pub use sampler::sample;
 pub use sampler::sample_number;
 

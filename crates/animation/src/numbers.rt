@@ -22,15 +22,15 @@ pub(crate) fn is_scalar(kind: Kind) -> bool
     }
 }
 
-// Whether keys and values lie in the table.
-fn lies_in(floats: &[f32], t: Track) -> bool
-    ensures { λ r. ⌜ r ≡ (keysFit (now (floats .entry)) t && valuesFit (now (floats .entry)) t) ⌝ }
+// Whether keys and values lie in a table of so many floats.
+pub fn lies_in(len: usize, t: Track) -> bool
+    ensures { λ r. ⌜ r ≡ (keysFit len t && valuesFit len t) ⌝ }
 {
     let keys = t.keys;
     let values = t.values;
     let kind = t.kind;
-    if fits(keys.at, keys.count, 1, floats.len()) {
-        return fits(values.at, values.count, width(kind), floats.len());
+    if fits(keys.at, keys.count, 1, len) {
+        return fits(values.at, values.count, width(kind), len);
     }
     false
 }
@@ -49,7 +49,7 @@ fn weights_over(kind: Kind, stride: usize) -> bool
 pub(crate) fn table_number(floats: &[f32], t: Track) -> u32
     ensures { λ r. ⌜ r ≡ tableNumber (now (floats .entry)) t ⌝ }
 {
-    if lies_in(floats, t) {
+    if lies_in(floats.len(), t) {
         let keys = t.keys;
         let values = t.values;
         let kind = t.kind;
