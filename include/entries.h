@@ -48,6 +48,11 @@ typedef struct {
 Told sample_floats(const float *floats, size_t floats_len, uint32_t kind, uint32_t interpolation, size_t keys_at,
                    size_t keys_count, size_t values_at, size_t values_count, float time, float value[4], float *out,
                    size_t out_len);
+/* The same on little-endian bytes: `time` is the bit pattern of a float, `value` and `out` take the bytes of floats, a NaN
+   as 7fc00000. Bytes past the last whole float of a slice are not counted. A table of more than 65,536 floats draws 2. */
+Told sample(const uint8_t *table, size_t table_len, uint32_t kind, uint32_t interpolation, size_t keys_at,
+            size_t keys_count, size_t values_at, size_t values_count, uint32_t time, uint8_t value[16], uint8_t *out,
+            size_t out_len);
 /* The weights of frame k or, where the mark `rows` is not 0, all three rows, copied as far as there is room. */
 Told frame_floats(const float *floats, size_t floats_len, uint32_t kind, uint32_t interpolation, size_t keys_at,
                   size_t keys_count, size_t values_at, size_t values_count, uint32_t rows, size_t k, float *out,

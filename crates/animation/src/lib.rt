@@ -19,6 +19,7 @@ pub use frames::morph_weight_frame;
 pub use frames::morph_weight_stride;
 pub use keys::keys_in_line;
 pub use layout::fits;
+pub use numbers::lies_in;
 pub use numbers::table_number;
 pub use sampler::sample;
 pub use sampler::sample_number;

@@ -7,7 +7,7 @@ use Rattle.model.specs.Lists.{orElse}
 use Rattle.model.specs.Matrix.{Matrix}
 use Rattle.model.specs.Transform.{Trs, Transform, parts, matrix}
 use Rattle.entries.specs.Handed.{chosen}
-use Rattle.entries.specs.Written.{Answered, caseOf}
+use Rattle.model.specs.Written.{Answered, caseOf}
 
 module _ {A : Type 0} (result : Option (List A)) (lent : List A) where
   pub with-some : (xs : List A) → result ≡ some xs → Answered result lent xs 1

@@ -1,15 +1,11 @@
--- Slices filled with the results of one function at each entry, and what a counted answer says of them. Assumes nothing.
+-- Slices filled with the results of one function at each entry. Assumes nothing.
 use mathlib.Core.Path.{_≡_, sym, ap, _∙_, subst}
 use mathlib.Core.List.{List, map, zipWith}
-use Prim.Native.Nat.{ℕ, _+_, _≤_, _<_, min}
+use Prim.Native.Nat.{ℕ, _+_, _<_, min}
 use native.Mathlib.Omega.{arith}
 use lib.ListN.{length, getD, set, length-map, List·getD-map}
 use Rattle.model.proofs.ListLaws.{length-zip, getD-zip}
-use Rattle.model.proofs.Filling.{Filled, start, step, inside, filled}
-use Rattle.entries.specs.Written.{Wrote}
-
-pub done : {A : Type 0} (results lent : List A) (n : ℕ) (left : List A) (i : ℕ) → Filled results lent n left i → n ≤ i → Wrote results lent left n
-done results lent n left i f h = record { counted = f .all; slice = filled results lent n left i f h }
+use Rattle.model.proofs.Filling.{Filled, start, step, inside}
 
 -- ---- where the results are those of one function at each x
 module _ {A B : Type 0} (g : A → B) (xs : List A) (lent : List B) (n : ℕ) where

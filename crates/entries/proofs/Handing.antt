@@ -20,7 +20,7 @@ use Rattle.animation.specs.declared.SampledValue.the-variants as sampledValue
 use Rattle.animation.specs.declared.Interpolation.the-variants as interpolation
 use Rattle.animation.specs.declared.Kind.the-variants as kind
 use Rattle.entries.specs.Tracks.{kindFor, interpolationFor, sampledIn, frameNumberIn, frameIn, frameStrideIn, isMarked, Delivered, Copied}
-use Rattle.entries.specs.Written.{Wrote}
+use Rattle.model.specs.Written.{Wrote}
 
 pub other-kind : (n : ℕ) → (n ≡ 0 → ⊥) → (n ≡ 1 → ⊥) → kind.Scalar ≡ kindFor n
 other-kind zero h g = absurd (h refl)

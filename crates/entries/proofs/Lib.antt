@@ -1,3 +1,6 @@
 pub mod Filling
 pub mod Cases
 pub mod Handing
+pub mod Rooms
+pub mod Decoding
+pub mod Delivering

@@ -1,3 +1,3 @@
-pub mod Written
 pub mod Handed
 pub mod Tracks
+pub mod Bytes

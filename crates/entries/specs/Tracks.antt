@@ -14,7 +14,7 @@ use Rattle.animation.specs.declared.Kind.the-variants as kind
 use Rattle.animation.specs.declared.Track.{Track}
 use Rattle.animation.specs.Tracks.{trackIn, tableNumber}
 use Rattle.entries.specs.declared.tracks.Told.{Told}
-use Rattle.entries.specs.Written.{Wrote}
+use Rattle.model.specs.Written.{Wrote}
 
 abbrev pub kindFor : ℕ → Kind
 kindFor zero = kind.Vec3

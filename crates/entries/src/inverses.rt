@@ -4,7 +4,7 @@ use scene::Linear;
 use scene::Mat4;
 ghost use Rattle.model.specs.Matrix.{inverseTranspose};
 ghost use Rattle.model.specs.Inverse.{affineInverse, normalMatrix};
-ghost use Rattle.entries.specs.Written.{Answered};
+ghost use Rattle.model.specs.Written.{Answered};
 
 // The inverse transpose of the linear part.
 #[no_mangle]

@@ -1,9 +1,11 @@
 // The C functions that other languages link (`rt staticlib entries`).
+mod bytes;
 mod inverses;
 mod leaves;
 mod matrices;
 mod tracks;
 
+pub use bytes::sample;
 pub use inverses::scene_linear_inverse_transpose;
 pub use inverses::scene_mat4_affine_inverse;
 pub use inverses::scene_normal_matrix;

@@ -14,7 +14,7 @@ ghost use Rattle.model.specs.Transform.{fromTrs, toMatrix, quaternion, split};
 ghost use Rattle.model.specs.Vertices.{affinePoint, transformedPoint};
 ghost use Rattle.scene.specs.Values.{vec3, quat, mat3, mat4, trs, transformOf};
 ghost use Rattle.entries.specs.Handed.{trsOf, chosen};
-ghost use Rattle.entries.specs.Written.{Answered};
+ghost use Rattle.model.specs.Written.{Answered};
 
 fn vector_of(v: [f32; 3]) -> Vec3
     ensures { λ r. ⌜ vec3 r ≡ v ⌝ }

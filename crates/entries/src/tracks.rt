@@ -14,7 +14,7 @@ ghost use mathlib.Core.List.{_++_};
 ghost use lib.ListN.{drop};
 ghost use Rattle.scene.specs.Values.{vec3, quat};
 ghost use Rattle.model.specs.Sampling.{inLine};
-ghost use Rattle.entries.specs.Written.{Wrote};
+ghost use Rattle.model.specs.Written.{Wrote};
 ghost use Rattle.entries.specs.Tracks.{kindFor, interpolationFor, trackFor, sampledIn, frameNumberIn, frameIn, frameStrideIn, isMarked, markOf, Delivered, Copied};
 
 fn kind_for(kind: u32) -> Kind
@@ -41,7 +41,7 @@ fn interpolation_for(interpolation: u32) -> Interpolation
     Interpolation::CubicSpline
 }
 
-fn track_for(
+pub(crate) fn track_for(
     kind: u32,
     interpolation: u32,
     keys_at: usize,
@@ -166,7 +166,7 @@ fn frame_in<'a>(floats: &'a [f32], t: Track, rows: bool, k: usize) -> &'a [f32]
 fn copy_into(part: &[f32], out: &mut [f32]) -> usize
     ensures { λ r. ⌜ Wrote (now (part .entry)) (now (out .entry)) (now (out .exit)) r ⌝ }
 {
-    let n = crate::leaves::least(part.len(), out.len());
+    let n = wire::least(part.len(), out.len());
     let mut i = 0;
     while i < n {
         out[i] = part[i];

@@ -7,6 +7,7 @@ use native.Mathlib.Numerals.{add-one}
 use native.Mathlib.Omega.{arith}
 use lib.ListN.{length, getD, take, drop, set}
 use lib.Seq.{paste, paste-suc, length-paste}
+use Rattle.model.specs.Written.{Wrote}
 
 -- the first i results stand in the slice, and n are wanted
 pub record Filled {A : Type 0} (results lent : List A) (n : ℕ) (left : List A) (i : ℕ) : Type 0 where
@@ -42,3 +43,6 @@ module _ {A : Type 0} (results lent : List A) (n : ℕ) where
   filled left i f h =
       let e : i ≡ n = omega (arith, f .upto) in
       f .slice ∙ ap (paste lent 0 results) e ∙ ap (λ (k : ℕ). take n results ++ drop k lent) (zero-add n)
+
+  pub done : (left : List A) (i : ℕ) → Filled results lent n left i → n ≤ i → Wrote results lent left n
+  done left i f h = record { counted = f .all; slice = filled left i f h }

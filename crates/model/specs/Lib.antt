@@ -1,4 +1,5 @@
 pub mod Lists
+pub mod Written
 pub mod Vector
 pub mod Matrix
 pub mod Inverse

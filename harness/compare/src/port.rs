@@ -41,6 +41,20 @@ mod foreign {
             out: *mut f32,
             out_len: usize,
         ) -> super::Told;
+        pub fn sample(
+            table: *const u8,
+            table_len: usize,
+            kind: u32,
+            interpolation: u32,
+            keys_at: usize,
+            keys_count: usize,
+            values_at: usize,
+            values_count: usize,
+            time: u32,
+            value: *mut [u8; 16],
+            out: *mut u8,
+            out_len: usize,
+        ) -> super::Told;
         pub fn frame_floats(
             floats: *const f32,
             floats_len: usize,
@@ -122,6 +136,34 @@ pub fn sample(track: &Track, time: f32, value: &mut [f32; 4], out: &mut [f32]) -
         foreign::sample_floats(
             track.floats.as_ptr(),
             track.floats.len(),
+            track.kind,
+            track.interpolation,
+            track.keys_at,
+            track.keys_count,
+            track.values_at,
+            track.values_count,
+            time,
+            value,
+            out.as_mut_ptr(),
+            out.len(),
+        )
+    }
+}
+
+/// The same on little-endian bytes: `table` holds the track's floats, and `time`
+/// is a bit pattern.
+pub fn sample_bytes(
+    track: &Track,
+    table: &[u8],
+    time: u32,
+    value: &mut [u8; 16],
+    out: &mut [u8],
+) -> Told {
+    // SAFETY: as for `sample`.
+    unsafe {
+        foreign::sample(
+            table.as_ptr(),
+            table.len(),
             track.kind,
             track.interpolation,
             track.keys_at,

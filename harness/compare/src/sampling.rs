@@ -2,6 +2,7 @@
 
 mod frames;
 pub mod list;
+mod on_bytes;
 pub mod speed;
 mod stock;
 mod tracks;

@@ -9,7 +9,7 @@
 //! otherwise not compared.
 
 use super::{
-    bits, same_bits,
+    bits, on_bytes, same_bits,
     tracks::{any, small, time, Kind, Track},
 };
 use crate::{
@@ -40,6 +40,7 @@ pub fn compare() -> bool {
             comparison.count_times(&track, &mut rng);
         }
     }
+    comparison.on_bytes.count_at_limit();
     comparison.report()
 }
 
@@ -176,6 +177,7 @@ struct Comparison {
     turns: Met<4>,
     layouts: Met<3>,
     refused: Met<5>,
+    on_bytes: on_bytes::Comparison,
 }
 
 impl Comparison {
@@ -205,15 +207,19 @@ impl Comparison {
             turns: Met::new(["straight turns", "turns", "left to the proof", "negated"]),
             layouts: Met::new(["larger multiples", "64 weights", "1 key"]),
             refused: Met::new(["with 2", "with 3", "with 4", "with 5", "with 10"]),
+            on_bytes: on_bytes::Comparison::new(),
         }
     }
 
     fn count_times(&mut self, track: &Track, rng: &mut Rng) {
         let early = early_numbers(track);
-        for _ in 0..TIMES {
+        for turn in 0..TIMES {
             let time = time(rng, track.keys());
             let room = room(track, rng);
             self.count(track, early, time, room);
+            if turn == 0 {
+                self.on_bytes.count(&track.of_port(), time, room);
+            }
         }
     }
 
@@ -310,8 +316,11 @@ impl Comparison {
             String::from("; refused"),
             self.refused.note(),
         ];
-        let equal = self.tally.report("sample", "cases", &note.concat());
-        equal && !met.contains(&false)
+        let equal = [
+            self.tally.report("sample", "cases", &note.concat()),
+            self.on_bytes.report(),
+        ];
+        !equal.contains(&false) && !met.contains(&false)
     }
 }
 

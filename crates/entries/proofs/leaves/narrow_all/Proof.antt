@@ -3,8 +3,8 @@ use Prim.Native.Nat.{_-_}
 use mathlib.Core.List.{map}
 use borrow.Author.Needs.{needs}
 use Rattle.float.specs.Narrow.{narrowOf}
-use Rattle.model.proofs.Filling.{Filled, same-length, inside}
-use Rattle.entries.proofs.Filling.{done, start-map, inside-map, step-map}
+use Rattle.model.proofs.Filling.{Filled, same-length, inside, done}
+use Rattle.entries.proofs.Filling.{start-map, inside-map, step-map}
 use Rattle.entries.proofs.leaves.narrow_all.Statement.{statement}
 use Rattle.entries.proofs.leaves.narrow_all.Tie as tie
 

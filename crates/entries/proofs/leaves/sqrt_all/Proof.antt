@@ -4,8 +4,8 @@ use mathlib.Core.List.{map}
 use borrow.Author.Needs.{needs}
 use lib.Ieee.{binary32}
 use Rattle.float.specs.Sqrt.{sqrtOf}
-use Rattle.model.proofs.Filling.{Filled, same-length, inside}
-use Rattle.entries.proofs.Filling.{done, start-map, inside-map, step-map}
+use Rattle.model.proofs.Filling.{Filled, same-length, inside, done}
+use Rattle.entries.proofs.Filling.{start-map, inside-map, step-map}
 use Rattle.entries.proofs.leaves.sqrt_all.Statement.{statement}
 use Rattle.entries.proofs.leaves.sqrt_all.Tie as tie
 

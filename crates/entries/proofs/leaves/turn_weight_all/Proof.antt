@@ -3,8 +3,8 @@ use Prim.Native.Nat.{_-_}
 use mathlib.Core.List.{zipWith}
 use borrow.Author.Needs.{needs}
 use Rattle.turn.specs.Weight.{weight}
-use Rattle.model.proofs.Filling.{Filled, same-length, inside}
-use Rattle.entries.proofs.Filling.{done, start-zip, inside-zip, step-zip}
+use Rattle.model.proofs.Filling.{Filled, same-length, inside, done}
+use Rattle.entries.proofs.Filling.{start-zip, inside-zip, step-zip}
 use Rattle.entries.proofs.leaves.turn_weight_all.Statement.{statement}
 use Rattle.entries.proofs.leaves.turn_weight_all.Tie as tie
 

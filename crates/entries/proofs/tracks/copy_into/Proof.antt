@@ -3,8 +3,7 @@ use Prim.Native.Nat.{_-_}
 use mathlib.Core.Path.{refl}
 use lib.Ieee.{nan}
 use borrow.Author.Needs.{needs}
-use Rattle.model.proofs.Filling.{Filled, start, same-length, inside, step}
-use Rattle.entries.proofs.Filling.{done}
+use Rattle.model.proofs.Filling.{Filled, start, same-length, inside, step, done}
 use Rattle.entries.proofs.tracks.copy_into.Statement.{statement}
 use Rattle.entries.proofs.tracks.copy_into.Tie as tie
 

@@ -1,0 +1,68 @@
+// Little-endian floats in byte slices. Every NaN pattern is read as the one NaN, which is written 7fc00000.
+ghost use mathlib.Core.Path.{_≡_};
+ghost use mathlib.Core.List.{_++_};
+ghost use Prim.Native.Nat.{_+_, _≤_, _<_, min};
+ghost use lib.ListN.{length, take, drop};
+ghost use Rattle.model.specs.Written.{Wrote};
+ghost use Rattle.wire.specs.Bytes.{wordAt, floatsIn, wordBytes, WroteBytes};
+
+pub fn least(a: usize, b: usize) -> usize
+    ensures { λ r. ⌜ r ≡ min a b ⌝ }
+{
+    if a < b { a } else { b }
+}
+
+fn wide(x: u8) -> u32
+    ensures { λ r. ⌜ (r ≡ x) × (r < 256) ⌝ }
+{
+    x as u32
+}
+
+// The word whose first byte is byte i.
+fn word_at(bytes: &[u8], i: usize) -> u32
+    requires { ⌜ i + 4 ≤ length (now bytes) ⌝ }
+    ensures { λ r. ⌜ r ≡ wordAt (now (bytes .entry)) i ⌝ }
+{
+    let a = wide(bytes[i]);
+    let b = wide(bytes[i + 1]);
+    let c = wide(bytes[i + 2]);
+    let d = wide(bytes[i + 3]);
+    a + b * 256 + c * 65536 + d * 16777216
+}
+
+// Writes the bytes of a word from byte i on.
+fn put_word(bytes: &mut [u8], i: usize, w: u32)
+    requires { ⌜ i + 4 ≤ length (now bytes) ⌝ }
+    ensures { λ _. ⌜ now (bytes .exit) ≡ take i (now (bytes .entry)) ++ wordBytes w ++ drop (i + 4) (now (bytes .entry)) ⌝ }
+{
+    bytes[i] = (w % 256) as u8;
+    bytes[i + 1] = (w / 256 % 256) as u8;
+    bytes[i + 2] = (w / 65536 % 256) as u8;
+    bytes[i + 3] = (w / 16777216 % 256) as u8;
+}
+
+// Reads as many floats as there are and `floats` has room for, and answers how many. Past these `floats` stays as lent.
+pub fn read_floats(bytes: &[u8], floats: &mut [f32]) -> usize
+    ensures { λ r. ⌜ Wrote (floatsIn (now (bytes .entry))) (now (floats .entry)) (now (floats .exit)) r ⌝ }
+{
+    let n = least(bytes.len() / 4, floats.len());
+    let mut i = 0;
+    while i < n {
+        floats[i] = float::from_bits(word_at(bytes, i * 4));
+        i += 1;
+    }
+    n
+}
+
+// Writes as many floats as there are and `bytes` has room for, and answers how many. Past these `bytes` stays as lent.
+pub fn write_floats(floats: &[f32], bytes: &mut [u8]) -> usize
+    ensures { λ r. ⌜ WroteBytes (now (floats .entry)) (now (bytes .entry)) (now (bytes .exit)) r ⌝ }
+{
+    let n = least(floats.len(), bytes.len() / 4);
+    let mut i = 0;
+    while i < n {
+        put_word(bytes, i * 4, float::to_bits(floats[i]));
+        i += 1;
+    }
+    n
+}
