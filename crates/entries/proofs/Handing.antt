@@ -1,11 +1,8 @@
 -- Tracks that are handed in by numbers, and what the calls on them answer. Assumes nothing.
 use mathlib.Core.Path.{_≡_, refl, sym, ap, _∙_, subst}
-use mathlib.Core.Bool.{Bool, not}
+use mathlib.Core.Bool.{Bool}
 use mathlib.Core.List.{List, [], _∷_, _++_}
-use Prim.Native.Nat.{ℕ, zero, suc}
-use borrow.Author.Tests.{ne-eqb}
-use native.Mathlib.Omega.{arith}
-use lib.Dec.{eqb}
+use Prim.Native.Nat.{ℕ}
 use lib.Ieee.{Float, nan}
 use lib.ListN.{length, set, drop}
 use Rattle.model.specs.Calls.{Sampled}
@@ -17,20 +14,8 @@ use Rattle.animation.specs.Values.{answerOf}
 use Rattle.animation.specs.declared.Track.{Track}
 use Rattle.animation.specs.declared.SampledValue.{SampledValue}
 use Rattle.animation.specs.declared.SampledValue.the-variants as sampledValue
-use Rattle.animation.specs.declared.Interpolation.the-variants as interpolation
-use Rattle.animation.specs.declared.Kind.the-variants as kind
-use Rattle.entries.specs.Tracks.{kindFor, interpolationFor, sampledIn, frameNumberIn, frameIn, frameStrideIn, isMarked, Delivered, Copied}
+use Rattle.entries.specs.Tracks.{sampledIn, frameNumberIn, frameIn, frameStrideIn, Delivered, Copied}
 use Rattle.model.specs.Written.{Wrote}
-
-pub other-kind : (n : ℕ) → (n ≡ 0 → ⊥) → (n ≡ 1 → ⊥) → kind.Scalar ≡ kindFor n
-other-kind zero h g = absurd (h refl)
-other-kind (suc zero) h g = absurd (g refl)
-other-kind (suc (suc n)) h g = refl
-
-pub other-interpolation : (n : ℕ) → (n ≡ 0 → ⊥) → (n ≡ 1 → ⊥) → interpolation.CubicSpline ≡ interpolationFor n
-other-interpolation zero h g = absurd (h refl)
-other-interpolation (suc zero) h g = absurd (g refl)
-other-interpolation (suc (suc n)) h g = refl
 
 -- ---- an array of four with a value at its start
 module _ (lent : List Float) (h : length lent ≡ 4) (x y z : Float) where
@@ -65,11 +50,6 @@ module _ (s : Sampled) (lent slice : List Float) (a : SampledValue) (e : answerO
 
   pub left-refused : (n : ℕ) → a ≡ sampledValue.Refused n → Delivered s lent lent slice (record { number = n; count = 0 })
   left-refused n f = left (sampledValue.Refused n) lent f refl
-
--- ---- marks
-pub marked : (n : ℕ) → not (eqb n 0) ≡ isMarked n
-marked zero = refl
-marked (suc n) = ap not (ne-eqb (suc n) 0 (λ e. omega (arith, e)))
 
 -- ---- a track that was handed in as t, and is u
 module _ (floats : List Float) (t u : Track) (e : t ≡ u) where

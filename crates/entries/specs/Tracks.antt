@@ -7,24 +7,11 @@ use lib.Ieee.{Float}
 use lib.ListN.{length, drop}
 use Rattle.model.specs.Calls.{Sampled, sampled, frameOf, strideOf}
 use Rattle.model.specs.Refusals.{frameNumber}
-use Rattle.animation.specs.declared.Interpolation.{Interpolation}
-use Rattle.animation.specs.declared.Interpolation.the-variants as interpolation
-use Rattle.animation.specs.declared.Kind.{Kind}
-use Rattle.animation.specs.declared.Kind.the-variants as kind
 use Rattle.animation.specs.declared.Track.{Track}
 use Rattle.animation.specs.Tracks.{trackIn, tableNumber}
+use Rattle.tables.specs.Tags.{kindFor, interpolationFor}
 use Rattle.entries.specs.declared.tracks.Told.{Told}
 use Rattle.model.specs.Written.{Wrote}
-
-abbrev pub kindFor : ℕ → Kind
-kindFor zero = kind.Vec3
-kindFor (suc zero) = kind.Quat
-kindFor (suc (suc n)) = kind.Scalar
-
-abbrev pub interpolationFor : ℕ → Interpolation
-interpolationFor zero = interpolation.Step
-interpolationFor (suc zero) = interpolation.Linear
-interpolationFor (suc (suc n)) = interpolation.CubicSpline
 
 -- kind, interpolation, where the keys start and how many there are, and the same of the values
 abbrev pub trackFor : ℕ → ℕ → ℕ → ℕ → ℕ → ℕ → Track
@@ -51,11 +38,6 @@ abbrev pub frameStrideIn : List Float → Track → ℕ
 frameStrideIn floats t = strideOf (tableNumber floats t) (trackIn floats t)
 
 -- ---- what is told and left
-
--- the mark 0 says no, any other yes
-abbrev pub isMarked : ℕ → Bool
-isMarked zero = false
-isMarked (suc n) = true
 
 abbrev pub markOf : Bool → ℕ
 markOf false = 0

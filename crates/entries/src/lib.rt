@@ -2,6 +2,7 @@
 mod bytes;
 mod inverses;
 mod leaves;
+mod lent;
 mod matrices;
 mod tracks;
 
@@ -12,6 +13,7 @@ pub use inverses::scene_normal_matrix;
 pub use leaves::narrow_all;
 pub use leaves::sqrt_all;
 pub use leaves::turn_weight_all;
+pub use lent::tables_number;
 pub use matrices::scene_affine_point;
 pub use matrices::scene_from_matrix;
 pub use matrices::scene_identity;

@@ -1,6 +1,5 @@
 // The functions of `scene` over arrays of fixed length: matrices and linear parts row by row, quaternions as x, y, z, w.
 use scene::Direction;
-use scene::Entries;
 use scene::Mat3;
 use scene::Mat4;
 use scene::Quat;
@@ -50,29 +49,6 @@ fn linear_of(l: [f32; 9]) -> Mat3
         m20: l[6],
         m21: l[7],
         m22: l[8],
-    }
-}
-
-fn entries_of(m: [f32; 16]) -> Entries
-    ensures { λ r. ⌜ mat4 r ≡ m ⌝ }
-{
-    Entries {
-        m00: m[0],
-        m01: m[1],
-        m02: m[2],
-        m03: m[3],
-        m10: m[4],
-        m11: m[5],
-        m12: m[6],
-        m13: m[7],
-        m20: m[8],
-        m21: m[9],
-        m22: m[10],
-        m23: m[11],
-        m30: m[12],
-        m31: m[13],
-        m32: m[14],
-        m33: m[15],
     }
 }
 
@@ -238,7 +214,7 @@ fn transform_of(
     if mark == 0 {
         return Transform::Trs(trs_of(translation, rotation, scale));
     }
-    Transform::Matrix(entries_of(m))
+    Transform::Matrix(scene::entries_of(Mat4 { m }))
 }
 
 // The matrix of a transform: of the parts where the mark is 0, else m.

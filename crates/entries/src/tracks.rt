@@ -1,45 +1,21 @@
 // The calls of `animation` over a table of floats. A track is handed in by numbers: the kind is 0 for Vec3, 1 for Quat and
 // otherwise scalar, the interpolation 0 for Step, 1 for Linear and otherwise CubicSpline; then where its keys start and how
 // many there are, and the same of its values, which are counted by the kind's entries.
-use animation::Interpolation;
-use animation::Kind;
 use animation::Part;
 use animation::SampledValue;
 use animation::Track;
 use scene::Quat;
 use scene::Vec3;
+use tables::ChannelRow;
 ghost use mathlib.Core.Path.{_≡_};
 ghost use mathlib.Core.Bool.{Bool};
 ghost use mathlib.Core.List.{_++_};
 ghost use lib.ListN.{drop};
 ghost use Rattle.scene.specs.Values.{vec3, quat};
 ghost use Rattle.model.specs.Sampling.{inLine};
+ghost use Rattle.tables.specs.Tags.{isMarked};
 ghost use Rattle.model.specs.Written.{Wrote};
-ghost use Rattle.entries.specs.Tracks.{kindFor, interpolationFor, trackFor, sampledIn, frameNumberIn, frameIn, frameStrideIn, isMarked, markOf, Delivered, Copied};
-
-fn kind_for(kind: u32) -> Kind
-    ensures { λ r. ⌜ r ≡ kindFor kind ⌝ }
-{
-    if kind == 0 {
-        return Kind::Vec3;
-    }
-    if kind == 1 {
-        return Kind::Quat;
-    }
-    Kind::Scalar
-}
-
-fn interpolation_for(interpolation: u32) -> Interpolation
-    ensures { λ r. ⌜ r ≡ interpolationFor interpolation ⌝ }
-{
-    if interpolation == 0 {
-        return Interpolation::Step;
-    }
-    if interpolation == 1 {
-        return Interpolation::Linear;
-    }
-    Interpolation::CubicSpline
-}
+ghost use Rattle.entries.specs.Tracks.{trackFor, sampledIn, frameNumberIn, frameIn, frameStrideIn, markOf, Delivered, Copied};
 
 pub(crate) fn track_for(
     kind: u32,
@@ -51,22 +27,20 @@ pub(crate) fn track_for(
 ) -> Track
     ensures { λ r. ⌜ r ≡ trackFor kind interpolation «keys_at» «keys_count» «values_at» «values_count» ⌝ }
 {
-    let kind = kind_for(kind);
-    let interpolation = interpolation_for(interpolation);
-    let keys = Part {
-        at: keys_at,
-        count: keys_count,
-    };
-    let values = Part {
-        at: values_at,
-        count: values_count,
-    };
-    Track {
+    tables::track_of(ChannelRow {
+        target: 0,
+        property: 0,
         kind,
         interpolation,
-        keys,
-        values,
-    }
+        keys: Part {
+            at: keys_at,
+            count: keys_count,
+        },
+        values: Part {
+            at: values_at,
+            count: values_count,
+        },
+    })
 }
 
 // The lent array with v at its start.
@@ -146,12 +120,6 @@ pub extern "C" fn sample_floats(
     }
 }
 
-fn is_marked(mark: u32) -> bool
-    ensures { λ r. ⌜ r ≡ isMarked mark ⌝ }
-{
-    mark != 0
-}
-
 // The part that is asked for: three rows of a cubic spline, or the weights alone.
 fn frame_in<'a>(floats: &'a [f32], t: Track, rows: bool, k: usize) -> &'a [f32]
     ensures { λ p. ⌜ now p ≡ frameIn (now (floats .entry)) t rows k ⌝ }
@@ -199,7 +167,7 @@ pub extern "C" fn frame_floats(
         values_at,
         values_count,
     );
-    let rows = is_marked(rows);
+    let rows = tables::is_marked(rows);
     let number = animation::frame_number(floats, t, rows, k);
     let count = copy_into(frame_in(floats, t, rows, k), out);
     Told { number, count }

@@ -3,12 +3,6 @@ ghost use mathlib.Core.Path.{_≡_};
 ghost use Prim.Native.Nat.{_*_, min};
 ghost use Rattle.tables.specs.Decoded.{spanIn};
 
-fn least(a: usize, b: usize) -> usize
-    ensures { λ r. ⌜ r ≡ min a b ⌝ }
-{
-    if a < b { a } else { b }
-}
-
 // How many of count rows' entries there is room for.
 fn entries_in(count: usize, width: usize, room: usize) -> usize
     ensures { λ r. ⌜ r ≡ min (count * width) room ⌝ }
@@ -26,7 +20,7 @@ fn entries_in(count: usize, width: usize, room: usize) -> usize
 pub fn words_in(words: &[u32], p: Part, width: usize) -> &[u32]
     ensures { λ r. ⌜ now r ≡ spanIn (now (words .entry)) p width ⌝ }
 {
-    let start = least(p.at, words.len());
+    let start = wire::least(p.at, words.len());
     let end = start + entries_in(p.count, width, words.len() - start);
     &words[start..end]
 }
@@ -35,7 +29,7 @@ pub fn words_in(words: &[u32], p: Part, width: usize) -> &[u32]
 pub fn floats_in(floats: &[f32], p: Part, width: usize) -> &[f32]
     ensures { λ r. ⌜ now r ≡ spanIn (now (floats .entry)) p width ⌝ }
 {
-    let start = least(p.at, floats.len());
+    let start = wire::least(p.at, floats.len());
     let end = start + entries_in(p.count, width, floats.len() - start);
     &floats[start..end]
 }

@@ -21,9 +21,11 @@ unfolding sumBelow
 loop-holds c = (refl, search needs, refl)
 
 loop-again : tie.Need-loop-again Inv-loop μ-loop
-loop-again c =
-    (refl, omega arith,
-    sum-more (childCount _ _) _ _ _ _ (c .before .before .before .before .loop .inv .2) (ap (λ (r : NodeRow). r .children .count) (c .before .before .node-row .ensures)) (c .capped .ensures))
+loop-again c = (
+  refl,
+  omega arith,
+  sum-more (childCount _ _) _ _ _ _ (c .before .before .before .before .loop .inv .2) (ap (λ (r : NodeRow). r .children .count) (c .before .before .node-row .ensures)) (c .capped .ensures),
+)
 
 returns : tie.Need-returns Inv-loop μ-loop
 returns c =

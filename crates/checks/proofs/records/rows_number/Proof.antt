@@ -20,9 +20,11 @@ unfolding lowestBelow
 loop-holds c = (refl, search needs, refl)
 
 loop-again : tie.Need-loop-again Inv-loop μ-loop
-loop-again c =
-    (refl, omega arith,
-    lowest-more _ _ _ _ _ (c .before .before .before .loop .inv .2) (c .before .row-number .ensures) (c .lower .ensures))
+loop-again c = (
+  refl,
+  omega arith,
+  lowest-more _ _ _ _ _ (c .before .before .before .loop .inv .2) (c .before .row-number .ensures) (c .lower .ensures),
+)
 
 returns : tie.Need-returns Inv-loop μ-loop
 returns c =

@@ -4,7 +4,7 @@ use Rattle.entries.proofs.tracks.track_for.Statement.{statement}
 use Rattle.entries.proofs.tracks.track_for.Tie as tie
 
 returns : tie.Need-returns
-returns c = cc
+returns c = c .track-of .ensures
 
 pub track-for-spec : {M : Type 1} → statement M
-track-for-spec = tie.close (tie.spec (λ c κs. search needs) (λ c κs. search needs) returns)
+track-for-spec = tie.close (tie.spec (λ c κs. search needs) returns)
