@@ -21,6 +21,7 @@ mod placing;
 mod port;
 mod rng;
 mod sampling;
+mod tables;
 mod tally;
 
 use std::{env, io, process::ExitCode};
@@ -29,11 +30,12 @@ use std::{env, io, process::ExitCode};
 type Area = (&'static str, fn() -> bool);
 
 /// From the leaves up.
-const AREAS: [Area; 4] = [
+const AREAS: [Area; 5] = [
     ("leaves", leaves::compare),
     ("matrices", matrices::compare),
     ("sampling", sampling::compare),
     ("placing", placing::compare),
+    ("tables", tables::compare),
 ];
 
 fn main() -> io::Result<ExitCode> {
@@ -77,4 +79,5 @@ fn speed() {
     leaves::speed::measure();
     matrices::speed::measure();
     sampling::speed::measure();
+    tables::speed::measure();
 }

@@ -5,7 +5,7 @@ pub mod list;
 mod on_bytes;
 pub mod speed;
 mod stock;
-mod tracks;
+pub mod tracks;
 mod values;
 
 use crate::tally::one_nan_bits;
@@ -26,6 +26,6 @@ fn same_bits(a: &[f32], b: &[f32]) -> bool {
     a.iter().map(compared).eq(b.iter().map(compared))
 }
 
-fn bits(xs: &[f32]) -> Vec<u32> {
+pub fn bits(xs: &[f32]) -> Vec<u32> {
     xs.iter().map(|x| x.to_bits()).collect()
 }

@@ -102,12 +102,18 @@ impl<const N: usize> Met<N> {
 
     /// Names each sort that was never met; true if there is none.
     pub fn report(&self) -> bool {
+        self.report_least(1)
+    }
+
+    /// Names each sort that was met less than `least` times; true if there is
+    /// none.
+    pub fn report_least(&self, least: u64) -> bool {
         for (name, count) in self.names.iter().zip(self.counts) {
-            if count == 0 {
-                println!("  never met: {name}");
+            if count < least {
+                println!("  met {count} times, expected {least}: {name}");
             }
         }
-        !self.counts.contains(&0)
+        self.counts.iter().all(|count| *count >= least)
     }
 }
 

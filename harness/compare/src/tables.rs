@@ -1,0 +1,27 @@
+//! A scene as it is lent: the layout of its tables, and the number that they
+//! draw.
+
+mod build;
+mod decode;
+mod example;
+mod fields;
+mod generate;
+mod hostile;
+mod layout;
+mod limits;
+mod numbers;
+mod round_trip;
+mod same;
+pub mod speed;
+mod zeros;
+
+/// Runs every comparison, even after one that differs.
+pub fn compare() -> bool {
+    let equal = [
+        example::compare(),
+        round_trip::compare(),
+        limits::compare(),
+        hostile::compare(),
+    ];
+    !equal.contains(&false)
+}
