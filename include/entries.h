@@ -63,4 +63,39 @@ size_t stride_floats(const float *floats, size_t floats_len, uint32_t kind, uint
 /* 1 where every key is finite and above the one before, otherwise 0. */
 uint32_t keys_in_line_floats(const float *keys, size_t keys_len);
 
+/* A scene is lent in tables (docs/TABLES.md): each starts at a word and has so many records. */
+typedef struct {
+    size_t at;
+    size_t count;
+} Part;
+
+typedef struct {
+    Part nodes;
+    Part roots;
+} Graph;
+
+typedef struct {
+    Part meshes;
+    Part primitives;
+    Part targets;
+    Part in_betweens;
+} Meshes;
+
+typedef struct {
+    Part skins;
+    Part skeletons;
+} Skins;
+
+typedef struct {
+    Graph graph;
+    Part channels;
+    Meshes meshes;
+    Skins skins;
+} Header;
+
+/* 1, 2 or 0: what the tables draw, over all that is lent. */
+uint32_t tables_number(const uint32_t *words, size_t words_len, const float *floats, size_t floats_len,
+                       const float *node_weights, size_t node_weights_len, const float *mesh_weights,
+                       size_t mesh_weights_len, Header header);
+
 #endif
