@@ -1,3 +1,4 @@
 pub mod Records
 pub mod Tags
 pub mod Decoded
+pub mod Codes
