@@ -21,3 +21,4 @@ pub mod Shared
 pub mod Differences
 pub mod Turns
 pub mod Alike
+pub mod RowLaws

@@ -5,6 +5,7 @@ use animation::Part;
 mod parts;
 mod readers;
 mod rows;
+mod wiping;
 
 pub use parts::floats_in;
 pub use parts::words_in;
@@ -22,6 +23,8 @@ pub use rows::primitive_row;
 pub use rows::skeleton_row;
 pub use rows::skin_row;
 pub use rows::target_row;
+pub use wiping::wipe_floats;
+pub use wiping::wipe_words;
 
 // The nodes and the roots.
 #[repr(C)]

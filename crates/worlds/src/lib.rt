@@ -1,0 +1,2 @@
+// The world matrix of every placed node, in lent slots of sixteen floats.
+mod slots;
