@@ -1,12 +1,13 @@
 -- Lengths and entries of lists that are made entry by entry, and a list by its first entries. Assumes nothing.
 use mathlib.Core.Path.{_≡_, refl, sym, ap, _∙_}
-use mathlib.Core.List.{List, [], _∷_, zipWith}
+use mathlib.Core.List.{List, [], _∷_, _++_, zipWith}
 use mathlib.Core.Option.{none, some}
 use Prim.Native.Nat.{ℕ, zero, suc, _+_, _≤_, _<_, min}
+use native.Mathlib.Numerals.{add-one}
 use native.Mathlib.Omega.{arith}
 use lib.ListN.{length, getD, getElem?, take, drop}
-use lib.Seq.{drop-cons, take-all}
-use Rattle.model.specs.Lists.{tabulate}
+use lib.Seq.{drop-cons, take-all, take-suc}
+use Rattle.model.specs.Lists.{foldl, tabulate}
 
 pub length-tabulate : {A : Type 0} (n : ℕ) (f : ℕ → A) → length (tabulate n f) ≡ n
 unfolding tabulate
@@ -68,3 +69,16 @@ pub same-entry : {A : Type 0} (l : List A) (i : ℕ) (d e : A) → i < length l 
 same-entry [] i d e h = absurd (omega arith)
 same-entry (x ∷ xs) zero d e h = refl
 same-entry (x ∷ xs) (suc i) d e h = same-entry xs i d e (omega arith)
+
+-- ---- a fold, one entry more
+foldl-append : {A B : Type 0} (f : B → A → B) (z : B) (xs ys : List A) → foldl f z (xs ++ ys) ≡ foldl f (foldl f z xs) ys
+unfolding foldl
+foldl-append f z [] ys = refl
+foldl-append f z (x ∷ xs) ys = foldl-append f (f z x) xs ys
+
+pub foldl-more : {A B : Type 0} (f : B → A → B) (z : B) (l : List A) (k : ℕ) (d : A) → k < length l → foldl f z (take (k + 1) l) ≡ f (foldl f z (take k l)) (getD l k d)
+unfolding foldl
+foldl-more f z l k d h =
+    ap (λ (n : ℕ). foldl f z (take n l)) (add-one k)
+    ∙ ap (foldl f z) (take-suc l k d h)
+    ∙ foldl-append f z (take k l) (getD l k d ∷ [])

@@ -7,7 +7,7 @@ ghost use Rattle.model.specs.Matrix.{mul};
 ghost use Rattle.scene.specs.Slots.{fitsAt};
 ghost use Rattle.worlds.specs.Slots.{aboveIn};
 
-fn wide(x: u32) -> usize
+pub(crate) fn wide(x: u32) -> usize
     ensures { λ r. ⌜ (r ≡ x) × (r < 4294967296) ⌝ }
 {
     x as usize

@@ -1,0 +1,19 @@
+// The pose of every node at a time: the port of pose.rs.
+use scene::Quat;
+use scene::Vec3;
+
+mod overlay;
+mod slots;
+
+pub use overlay::local_transform;
+pub use slots::pose_at;
+
+// What is posed of a node, with marks for what is there; its morph weights are not held.
+pub struct NodePose {
+    pub has_translation: bool,
+    pub translation: Vec3,
+    pub has_rotation: bool,
+    pub rotation: Quat,
+    pub has_scale: bool,
+    pub scale: Vec3,
+}
