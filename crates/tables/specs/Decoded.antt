@@ -56,6 +56,10 @@ partsFrom ten = record { translation = take 3 ten; rotation = part ten 3 4; scal
 abbrev pub baseOf : List Float → NodeRow → Transform
 baseOf floats r = pick (isMarked (r .form)) (matrix (matrixIn floats (r .base))) (parts (partsFrom (tenIn floats (r .base))))
 
+-- the child list of node i
+abbrev pub childrenIn : List ℕ → Part → ℕ → List ℕ
+childrenIn words nodes i = spanIn words (nodeRow words nodes i .children) 1
+
 abbrev pub nodeOf : Lent → NodeRow → scene.Node
 nodeOf l r = record {
   base = baseOf (l .floats) r;

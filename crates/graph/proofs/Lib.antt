@@ -1,0 +1,3 @@
+pub mod Pushing
+pub mod Taking
+pub mod Answering
