@@ -140,6 +140,7 @@ module _ (l : Lent) (h : tablesNumber l ≡ 0) where
     tables = λ k. in-words k .0;
     records = sound;
     roots = drawn-none _ _ no-roots .0;
+    root-count = part-length (l .words) (l .header .graph .roots) (drawn-none _ _ no-roots .0);
     few-nodes = subst (λ (n : ℕ). n ≤ 1024) (sym (length-tabulate _ _)) (leb-true _ 1024 (in-words table.Nodes .1));
     few-roots = omega (arith, length-take (l .header .graph .roots .count * 1) (drop (l .header .graph .roots .at) (l .words)), leb-true (l .header .graph .roots .count) 1024 (drawn-none _ _ no-roots .1));
     few-channels = subst (λ (n : ℕ). n ≤ 1024) (sym (length-tabulate _ _)) (leb-true _ 1024 (in-words table.Channels .1));

@@ -46,6 +46,7 @@ pub record Checked (l : Lent) : Type 0 where
   pub tables : (k : Table) → fitsIn (tableOf (l .header) k) (recordWords k) (length (l .words)) ≡ true
   pub records : (k : Table) (i : ℕ) → i < tableOf (l .header) k .count → Sound l k i
   pub roots : fitsIn (l .header .graph .roots) 1 (length (l .words)) ≡ true
+  pub root-count : length (sceneOf l .roots) ≡ l .header .graph .roots .count
   pub few-nodes : nodeCount (sceneOf l) ≤ nodeLimit
   pub few-roots : length (sceneOf l .roots) ≤ rootLimit
   pub few-channels : length (sceneOf l .tracks) ≤ channelLimit

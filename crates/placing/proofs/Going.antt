@@ -109,12 +109,10 @@ module _ (s : Scene) (walk₀ : List ℕ) (top₀ : ℕ) (m₀ : Marks) (walk : 
   }
 
 -- nothing is left to take
-pub at-last : (s : Scene) (walk₀ : List ℕ) (top₀ : ℕ) (m₀ : Marks) (walk : List ℕ) (top : ℕ) (m : Marks) (taken : ℕ) → Going s walk₀ top₀ m₀ walk top m taken → length (m .order) ≡ length (m₀ .order) → top ≡ 0
+pub at-last : (s : Scene) (walk₀ : List ℕ) (top₀ : ℕ) (m₀ : Marks) (walk : List ℕ) (top : ℕ) (m : Marks) (taken : ℕ) → Going s walk₀ top₀ m₀ walk top m taken → top ≡ 0
     → Drained s walk₀ top₀ m₀ (record { marks = m; taken = taken })
 unfolding stackOf
-at-last s walk₀ top₀ m₀ walk top m taken g lo z = record {
-  ended = sym (g .goes)
-      ∙ ap (λ (n : ℕ). drained (pending s top (m .places)) (childrenAt s) (stackOf walk n) m taken) z
-      ∙ drained-none (pending s top (m .places)) (childrenAt s) m taken;
-  few = omega (arith, g .ready .left);
-}
+at-last s walk₀ top₀ m₀ walk top m taken g z =
+    sym (g .goes)
+    ∙ ap (λ (n : ℕ). drained (pending s top (m .places)) (childrenAt s) (stackOf walk n) m taken) z
+    ∙ drained-none (pending s top (m .places)) (childrenAt s) m taken

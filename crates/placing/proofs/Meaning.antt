@@ -2,21 +2,23 @@
 use mathlib.Core.Path.{_≡_, refl, sym, ap, _∙_}
 use mathlib.Core.Bool.{Bool, true, false}
 use mathlib.Core.List.{List, [], _∷_, _++_, map, append-nil}
-use Prim.Native.Nat.{ℕ, zero, suc, _+_, _≤_}
+use Prim.Native.Nat.{ℕ, zero, suc, _+_, _≤_, _<_}
 use native.Mathlib.Nat.{zero-add}
 use native.Mathlib.Numerals.{add-one}
 use native.Mathlib.Omega.{arith}
-use borrow.Author.Tests.{ne-eqb}
+use borrow.Author.Tests.{eqb-true, ne-eqb}
 use lib.Dec.{eqb}
-use lib.ListN.{length, getD, set, take, drop, replicate, length-map, length-replicate, List·getD-map}
+use lib.ListN.{length, getD, set, take, drop, replicate, length-map, length-replicate, length-set, List·getD-map}
 use lib.Seq.{sets, sets-eq, drop-length, length-take-le}
 use Rattle.model.specs.Lists.{pick, foldl}
 use Rattle.model.specs.Scene.{Scene, nodeCount, childrenAt}
 use Rattle.model.specs.Placing.{Place, unplaced, root, below, Entry, listed, isFree, free, Taken, walk, placedOf, trace, start, childEntries, order, placesFrom, places, takenFrom, taken}
+use Rattle.model.proofs.Walking.{Stands, InTurn, in-turn}
 use Rattle.model.proofs.Placed.{taken-is-counted}
 use Rattle.tables.specs.Codes.{codeOf, codesOf}
 use Rattle.placing.specs.Walk.{entriesOf, Walked}
-use Rattle.placing.specs.Bench.{Item, listedAs, stackOf, Marks, State, takeOne, Ended, drained, Started, Drained}
+use Rattle.placing.specs.Bench.{Item, listedAs, stackOf, waiting, Marks, State, takeOne, Ended, drained, Started, Drained}
+use Rattle.placing.proofs.Unplaced.{free-place, free-all}
 use Rattle.placing.proofs.Taking.{placed, dropped}
 use Rattle.placing.proofs.Going.{bound}
 
@@ -47,6 +49,28 @@ free-code (below p) = ne-eqb (p + 3) 0 (λ e. omega arith)
 
 tells-free : (ps : List Place) (i : ℕ) → eqb (getD (codesOf ps) i 1) 0 ≡ free ps i
 tells-free ps i = ap (λ (c : ℕ). eqb c 0) (List·getD-map codeOf ps i root) ∙ free-code (getD ps i root)
+
+-- no node is placed twice
+few-in-turn : (ps : List Place) (es : List Entry) → InTurn ps es → length es ≤ waiting (replicate (length ps) 1) (codesOf ps)
+few-in-turn ps [] h = omega arith
+few-in-turn ps (e ∷ es) h =
+    let z : getD (codesOf ps) (e .node) 1 ≡ 0 = eqb-true _ _ (tells-free ps (e .node) ∙ h .0) in
+    let r : length es ≤ waiting (replicate (length (set ps (e .node) (e .place))) 1) (codesOf (set ps (e .node) (e .place))) =
+    few-in-turn (set ps (e .node) (e .place)) es (h .2) in
+    let q : waiting (replicate (length (set ps (e .node) (e .place))) 1) (codesOf (set ps (e .node) (e .place))) ≡ waiting (replicate (length ps) 1) (set (codesOf ps) (e .node) (codeOf (e .place))) =
+    λ j. waiting (replicate (length-set ps (e .node) (e .place) j) 1) (sym (codes-set ps (e .node) (e .place)) j) in
+    omega (arith, free-place (length ps) (codesOf ps) (e .node) (codeOf (e .place)) (sym (length-map ps codeOf)) z (stands-coded ps (e .place) (h .1)))
+  where
+    stands-coded : (ps : List Place) (p : Place) → Stands ps p → 0 < codeOf p
+    stands-coded ps unplaced g = absurd g
+    stands-coded ps root g = omega arith
+    stands-coded ps (below p) g = omega arith
+
+pub order-few : (s : Scene) → length (order s) ≤ nodeCount s
+order-few s =
+    let all : waiting (replicate (length (start s)) 1) (codesOf (start s)) ≡ nodeCount s =
+    (λ j. waiting (replicate (length-replicate (nodeCount s) unplaced j) 1) (sym (codes-start (nodeCount s)) j)) ∙ free-all (nodeCount s) in
+    omega (arith, few-in-turn (start s) (order s) (in-turn s))
 
 module _ (children : ℕ → List ℕ) where
   -- how a run ends that takes the entries of a trace
@@ -130,7 +154,7 @@ module _ (s : Scene) (lent : List ℕ) (nodes : nodeCount s ≡ length lent) whe
       no-entry (x ∷ l) h = absurd (omega arith)
 
   module _ (some : length lent ≡ 0 → ⊥) (cleared room : List ℕ) (top : ℕ) (S : Started s lent cleared room top)
-      (o leftPlaces leftOrder : List ℕ) (n c : ℕ)
+      (o leftPlaces leftOrder : List ℕ) (n c : ℕ) (long : length lent ≤ length o)
       (D : Drained s room top (record { places = cleared; order = o; placed = 0 }) (record { marks = record { places = leftPlaces; order = leftOrder; placed = c }; taken = n })) where
     tables : codesOf (start s) ≡ cleared
     tables = sym (codes-start (nodeCount s)) ∙ ap (λ (k : ℕ). replicate k 0) nodes ∙ sym (S .places)
@@ -143,7 +167,7 @@ module _ (s : Scene) (lent : List ℕ) (nodes : nodeCount s ≡ length lent) whe
         (λ j. told (childrenAt s) (sym (trace-is (start s) (s .roots) (childrenAt s) (childEntries s) (λ z. some (sym nodes ∙ sym (length-replicate (nodeCount s) unplaced) ∙ z))) j) (start s) o 0 0)
         ∙ sym (tells (childrenAt s) (entriesOf s) (listed root (s .roots)) (start s) o 0 0)
         ∙ (λ j. drained (bound s lent cleared room top nodes S j) (childrenAt s) (stack j) (record { places = tables j; order = o; placed = 0 }) 0)
-        ∙ D .ended
+        ∙ D
 
     pub walked : Walked s lent leftPlaces o leftOrder n c
     unfolding order
@@ -153,20 +177,17 @@ module _ (s : Scene) (lent : List ℕ) (nodes : nodeCount s ≡ length lent) whe
         let same : length ids ≡ length (order s) = length-map (order s) nodeOf in
         record {
           places = (λ j. sym ended j .marks .places) ∙ sym (append-nil (codesOf (places s))) ∙ (λ j. codesOf (places s) ++ sym (none-past lent (nodeCount s) nodes) j);
-          order = (λ j. sym ended j .marks .order) ∙ sets-eq ids o 0 (omega (arith, D .few)) ∙ (λ j. ids ++ drop ((zero-add (length ids) ∙ same) j) o);
+          order = (λ j. sym ended j .marks .order) ∙ sets-eq ids o 0 (omega (arith, order-few s)) ∙ (λ j. ids ++ drop ((zero-add (length ids) ∙ same) j) o);
           counted = count;
           entries = omega (arith, ap (λ (x : Ended). x .taken) ended, taken-is-counted s);
         }
 
 -- ---- the first places of a longer slice
 
-pub part-of : (l : List ℕ) (n : ℕ) → n ≤ length l → n ≡ length (take n l)
-part-of l n h = sym (length-take-le n l h)
-
 pub of-part : (s : Scene) (lent : List ℕ) (n : ℕ) → nodeCount s ≡ n → n ≤ length lent → (left o leftOrder : List ℕ) (k c : ℕ)
     → Walked s (take n lent) left o leftOrder k c → Walked s lent (left ++ drop n lent) o leftOrder k c
 of-part s lent n e h left o leftOrder k c w = record {
-  places = (λ j. (w .places ∙ (λ i. codesOf (places s) ++ none-past (take n lent) (nodeCount s) (e ∙ part-of lent n h) i) ∙ append-nil (codesOf (places s))) j ++ drop (sym e j) lent);
+  places = (λ j. (w .places ∙ (λ i. codesOf (places s) ++ none-past (take n lent) (nodeCount s) (e ∙ sym (length-take-le n lent h)) i) ∙ append-nil (codesOf (places s))) j ++ drop (sym e j) lent);
   order = w .order;
   counted = w .counted;
   entries = w .entries;

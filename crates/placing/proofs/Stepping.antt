@@ -3,13 +3,13 @@ use mathlib.Core.Path.{_≡_, refl, sym, ap, _∙_}
 use mathlib.Core.List.{List, _++_}
 use Prim.Native.Nat.{ℕ, _+_, _-_, _*_, _≤_, _<_}
 use native.Mathlib.Omega.{arith}
-use lib.ListN.{length, getD, set}
+use lib.ListN.{length, getD}
 use Rattle.model.specs.Scene.{Scene, Node, blank, nodeCount, childrenAt}
 use Rattle.model.proofs.ListLaws.{length-tabulate, getD-tabulate, same-entry}
 use Rattle.tables.specs.declared.Graph.{Graph}
 use Rattle.tables.specs.Decoded.{childrenIn}
 use Rattle.placing.specs.Walk.{listingIn}
-use Rattle.placing.specs.Bench.{listedAs, itemAt, stackOf, childCounts, Marks, Ready, Pushed, Stepped}
+use Rattle.placing.specs.Bench.{listedAs, itemAt, stackOf, childCounts, Marks, marked, Ready, Pushed, Stepped}
 use Rattle.placing.proofs.Unplaced.{waiting-one, free-one}
 use Rattle.placing.proofs.Taking.{is-placed, is-dropped, count-at, counts-length}
 
@@ -23,12 +23,18 @@ module _ (words : List ℕ) (graph : Graph) where
   children-at i h = ap (λ (n : Node). n .children) (getD-tabulate _ _ i blank h)
 
 module _ (words : List ℕ) (graph : Graph) (walk places order : List ℕ) (top placed : ℕ) (r : Ready (listingIn words graph) walk places order top placed) (p : 0 < top)
-    (i : ℕ) (b : i < length places) (z : getD places i 0 ≡ 0) where
+    (b : getD walk (2 * (top - 1)) 0 < length places) (z : getD places (getD walk (2 * (top - 1)) 0) 0 ≡ 0) where
   abbrev scene : Scene
   scene = listingIn words graph
 
+  abbrev i : ℕ
+  i = getD walk (2 * (top - 1)) 0
+
   abbrev children : List ℕ
   children = childrenIn words (graph .nodes) i
+
+  abbrev m : Marks
+  m = record { places = places; order = order; placed = placed }
 
   free : getD places i 1 ≡ 0
   free = same-entry places i 1 0 b ∙ z
@@ -51,19 +57,13 @@ module _ (words : List ℕ) (graph : Graph) (walk places order : List ℕ) (top 
       )
 
   -- the node is placed
-  pub stepped : (list left : List ℕ) (top′ : ℕ) → i ≡ getD walk (2 * (top - 1)) 0 → list ≡ children → Pushed list (i + 3) walk left (top - 1) top′
-      → Stepped scene walk top (record { places = places; order = order; placed = placed })
-      (record { stack = stackOf left top′; marks = record { places = set places i (getD walk (2 * (top - 1) + 1) 0); order = set order placed i; placed = placed + 1 } })
-  stepped list left top′ e l q =
-      let f : getD places (getD walk (2 * (top - 1)) 0) 1 ≡ 0 = ap (λ (j : ℕ). getD places j 1) (sym e) ∙ free in
-      is-placed (childrenAt scene) (itemAt walk (top - 1)) (stackOf walk (top - 1)) (record { places = places; order = order; placed = placed }) f
-      ∙ (λ j. record {
-        stack = listedAs (sym e j + 3) (childrenAt scene (sym e j)) ++ stackOf walk (top - 1);
-        marks = record { places = set places (sym e j) (getD walk (2 * (top - 1) + 1) 0); order = set order placed (sym e j); placed = placed + 1 };
-      })
+  pub stepped : (list left : List ℕ) (top′ : ℕ) → list ≡ children → Pushed list (i + 3) walk left (top - 1) top′
+      → Stepped scene walk top m (record { stack = stackOf left top′; marks = marked (itemAt walk (top - 1)) m })
+  stepped list left top′ l q =
+      is-placed (childrenAt scene) (itemAt walk (top - 1)) (stackOf walk (top - 1)) m free
       ∙ (λ j. record {
         stack = (ap (λ (x : List ℕ). listedAs (i + 3) x ++ stackOf walk (top - 1)) (its-children ∙ sym l) ∙ sym (q .stack)) j;
-        marks = record { places = set places i (getD walk (2 * (top - 1) + 1) 0); order = set order placed i; placed = placed + 1 };
+        marks = marked (itemAt walk (top - 1)) m;
       })
 
 -- the entry is dropped

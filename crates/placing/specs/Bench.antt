@@ -98,6 +98,5 @@ abbrev pub Stepped : Scene → List ℕ → ℕ → Marks → State → Type 0
 Stepped s walk top m after = takeOne (childrenAt s) (itemAt walk (top - 1)) (stackOf walk (top - 1)) m ≡ after
 
 -- what is left where the stack is empty
-pub record Drained (s : Scene) (walk : List ℕ) (top : ℕ) (m : Marks) (after : Ended) : Type 0 where
-  pub ended : drained (pending s top (m .places)) (childrenAt s) (stackOf walk top) m 0 ≡ after
-  pub few : after .marks .placed ≤ length (m .order)
+abbrev pub Drained : Scene → List ℕ → ℕ → Marks → Ended → Type 0
+Drained s walk top m after = drained (pending s top (m .places)) (childrenAt s) (stackOf walk top) m 0 ≡ after

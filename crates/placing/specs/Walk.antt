@@ -31,7 +31,7 @@ listingIn words graph = record {
   skeletons = [];
 }
 
--- the entries that a walk has room for at most: roots and child entries
+-- the entries of a listing: roots and child entries. No run takes more
 abbrev pub entriesOf : Scene → ℕ
 entriesOf s = length (s .roots) + placing.childEntries s
 

@@ -108,7 +108,7 @@ fn start(words: &[u32], graph: Graph, walk: &mut [u32], places: &mut [u32]) -> u
     push(tables::words_in(words, graph.roots, 1), 1, walk, 0)
 }
 
-// Places the nodes, one place each.
+// Places the nodes, where there are as many places as nodes.
 fn fill(words: &[u32], graph: Graph, walk: &mut [u32], places: &mut [u32], order: &mut [u32]) -> Run
     requires { ⌜ graph .nodes .count ≡ length (now places) ⌝ }
     requires { ⌜ (graph .nodes .count ≤ 1024) × (graph .nodes .count ≤ length (now order)) ⌝ }
@@ -126,7 +126,7 @@ fn fill(words: &[u32], graph: Graph, walk: &mut [u32], places: &mut [u32], order
 }
 
 // Places the nodes: the code of each node's place goes to `places`, the placed nodes in order to `order`. What `walk` holds
-// then is not said.
+// after that is not said.
 pub fn place(
     words: &[u32],
     graph: Graph,

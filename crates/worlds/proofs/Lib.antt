@@ -1,1 +1,3 @@
 pub mod Stepping
+pub mod Answering
+pub mod Filled

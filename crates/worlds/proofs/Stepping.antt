@@ -31,7 +31,7 @@ map-set f [] i x = refl
 map-set f (y ∷ l) zero x = refl
 map-set f (y ∷ l) (suc i) x = ap (λ m. f y ∷ m) (map-set f l i x)
 
-getD-map : {A B : Type 0} (f : A → B) (l : List A) (i : ℕ) (d : A) (e : B) → i < length l → getD (map f l) i e ≡ f (getD l i d)
+pub getD-map : {A B : Type 0} (f : A → B) (l : List A) (i : ℕ) (d : A) (e : B) → i < length l → getD (map f l) i e ≡ f (getD l i d)
 getD-map f [] i d e h = absurd (omega arith)
 getD-map f (y ∷ l) zero d e h = refl
 getD-map f (y ∷ l) (suc i) d e h = getD-map f l i d e (omega arith)

@@ -1,2 +1,4 @@
 pub mod Slots
 pub mod Posed
+pub mod Rooms
+pub mod Placed

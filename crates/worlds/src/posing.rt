@@ -1,10 +1,15 @@
 use animation::Part;
 use crate::slots::place_one;
 use crate::slots::wide;
+use placing::Run;
 use scene::Mat4;
+use tables::Graph;
 ghost use mathlib.Core.Path.{_≡_};
-ghost use lib.ListN.{getD};
+ghost use Prim.Native.Nat.{_*_, _≤_};
+ghost use lib.ListN.{length, getD, replicate};
+ghost use Rattle.float.specs.F32.{zero32};
 ghost use Rattle.model.specs.Lists.{foldl};
+ghost use Rattle.placing.specs.Walk.{listingIn, entriesOf, Walked};
 ghost use Rattle.worlds.specs.Slots.{placedIn};
 ghost use Rattle.worlds.specs.Posed.{localIn};
 
@@ -53,4 +58,39 @@ pub(crate) fn place_worlds(
         place_one(worlds, id, word(places, i), local);
         k += 1;
     }
+}
+
+// Writes the worlds of the nodes of `order`; all others have none.
+pub(crate) fn write_worlds(
+    words: &[u32],
+    floats: &[f32],
+    nodes: Part,
+    marks: &[u32],
+    slots: &[f32],
+    places: &[u32],
+    order: &[u32],
+    worlds: &mut [f32],
+)
+    ensures { λ _. ⌜ now (worlds .exit) ≡ foldl (placedIn (localIn (now (words .entry)) (now (floats .entry)) nodes (now (marks .entry)) (now (slots .entry))) (now (places .entry))) (replicate (length (now (worlds .entry))) zero32) (now (order .entry)) ⌝ }
+{
+    tables::wipe_floats(worlds);
+    place_worlds(words, floats, nodes, marks, slots, places, order, worlds);
+}
+
+// Places the nodes; then nothing waits in the walk room.
+pub(crate) fn place_wiped(
+    words: &[u32],
+    graph: Graph,
+    walk: &mut [u32],
+    places: &mut [u32],
+    order: &mut [u32; 1024],
+) -> Run
+    requires { ⌜ graph .nodes .count ≤ 1024 ⌝ }
+    requires { ⌜ graph .nodes .count ≤ length (now places) ⌝ }
+    requires { ⌜ 2 * entriesOf (listingIn (now words) graph) ≤ length (now walk) ⌝ }
+    ensures { λ r. ⌜ Walked (listingIn (now (words .entry)) graph) (now (places .entry)) (now (places .exit)) (now (order .entry)) (now (order .exit)) (r .taken) (r .placed) × (now (walk .exit) ≡ replicate (length (now (walk .entry))) 0) ⌝ }
+{
+    let run = placing::place(words, graph, walk, places, order);
+    tables::wipe_words(walk);
+    run
 }

@@ -48,7 +48,7 @@ same-length-3 : tie.Need-same-length-3 Inv-loop μ-loop
 same-length-3 c = c .before .before .loop .inv .3
 
 returns : tie.Need-returns Inv-loop μ-loop
-returns c = at-last _ _ _ _ _ _ _ _ (c .before .before .loop .inv .0) (c .before .before .loop .inv .3) (omega (arith, c .if1 .left))
+returns c = at-last _ _ _ _ _ _ _ _ (c .before .before .loop .inv .0) (omega (arith, c .if1 .left))
 
 pub drain-spec : {M : Type 1} → statement M
 drain-spec =

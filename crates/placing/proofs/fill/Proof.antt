@@ -30,7 +30,7 @@ returns-2 : tie.Need-returns-2
 returns-2 c =
     let s = c .before .before .before .before .before .before .before .before .before .before .before .before .before .before .before .before .before .before .before .before .before .before in
     walked (listingIn (now (s .args .words)) (s .args .graph)) (now (s .args .places)) (node-count _ _ ∙ s .pre .0) (c .before .before .before .before .before .before .before .before .before .before .before .before .before .before .before .before .before .if1 .left)
-    _ _ _ (c .before .before .before .before .before .before .before .before .before .before .before .before .before .before .start .ensures) _ _ _ _ _ (c .before .before .before .before .before .before .drain .ensures)
+    _ _ _ (c .before .before .before .before .before .before .before .before .before .before .before .before .before .before .start .ensures) _ _ _ _ _ (omega (arith, s .pre .0, s .pre .1 .0 .1)) (c .before .before .before .before .before .before .drain .ensures)
 
 pub fill-spec : {M : Type 1} → statement M
 fill-spec =

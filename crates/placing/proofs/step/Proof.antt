@@ -1,5 +1,5 @@
 -- `placing::step` meets its contract. Assumes nothing.
-use mathlib.Core.Path.{refl, sym, _∙_}
+use mathlib.Core.Path.{sym, _∙_}
 use Prim.Native.Nat.{_*_, _-_}
 use native.Mathlib.Omega.{arith}
 use borrow.Author.Needs.{needs}
@@ -18,17 +18,17 @@ cast-i c = omega (arith, c .slice-known5 .given (2 * (c .before .before .before 
 slice-write-order : tie.Need-slice-write-order
 slice-write-order c =
     let s = c .before .before .before .before .before .before .before .before .before .before in
-    few-placed _ _ _ _ _ _ _ (s .pre .0) (s .pre .1) _ (c .before .before .if1 .taken) (c .if2 .taken)
+    few-placed _ _ _ _ _ _ _ (s .pre .0) (s .pre .1) (c .before .before .if1 .taken) (c .if2 .taken)
 
 push-requires : tie.Need-push-requires
 push-requires c κs =
     let s = c .before .before .before .before .before .before .before .before .before .before .before .before in
-    room-for _ _ _ _ _ _ _ (s .pre .0) (s .pre .1) _ (c .before .before .before .before .if1 .taken) (c .before .before .if2 .taken) _ (c .before .children-of .ensures)
+    room-for _ _ _ _ _ _ _ (s .pre .0) (s .pre .1) (c .before .before .before .before .if1 .taken) (c .before .before .if2 .taken) _ (c .before .children-of .ensures)
 
 returns : tie.Need-returns
 returns c =
     let s = c .before .before .before .before .before .before .before .before .before .before .before .before .before .before .before in
-    stepped _ _ _ _ _ _ _ (s .pre .0) (s .pre .1) _ (c .before .before .before .before .before .before .before .if1 .taken) (c .before .before .before .before .before .if2 .taken) _ _ _ refl (c .before .before .before .before .children-of .ensures) (c .before .before .push .ensures)
+    stepped _ _ _ _ _ _ _ (s .pre .0) (s .pre .1) (c .before .before .before .before .before .before .before .if1 .taken) (c .before .before .before .before .before .if2 .taken) _ _ _ (c .before .before .before .before .children-of .ensures) (c .before .before .push .ensures)
 
 returns-2 : tie.Need-returns-2
 returns-2 c =
