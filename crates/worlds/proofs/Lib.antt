@@ -1,3 +1,4 @@
 pub mod Stepping
 pub mod Answering
 pub mod Filled
+pub mod Delivering

@@ -1,6 +1,6 @@
-use animation::Part;
 use crate::slots::place_one;
 use crate::slots::wide;
+use animation::Part;
 use placing::Run;
 use scene::Mat4;
 use tables::Graph;

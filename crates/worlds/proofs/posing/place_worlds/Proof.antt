@@ -37,10 +37,11 @@ loop-again c =
     let i = c .before .before .before .before .before .before .wide .ensures .0 in
     let m = c .before .before .before .before .before .local-matrix .ensures ∙ ap local i in
     let code = c .before .before .before .word .ensures ∙ ap (λ (n : ℕ). getD (now (a .places)) n 0) i in
-    let one = c .before .before .place-one .ensures ∙ (λ j. pick (fitsAt (l .worlds) (id * 16)) (paste (l .worlds) (id * 16) (mul (aboveIn (l .worlds) (code j)) (m j)) 16) (l .worlds)) in
-    (omega arith,
-    one ∙ ap (λ w. placedIn local (now (a .places)) w id) (l .inv .1) ∙ sym (foldl-more (placedIn local (now (a .places))) _ (now (a .order)) (l .k) 0 (omega arith)),
-    search needs)
+    let one = c .before .before .place-one .ensures ∙ (λ j. pick (fitsAt (l .worlds) (id * 16)) (paste (l .worlds) (id * 16) (mul (aboveIn (l .worlds) (code j)) (m j)) 16) (l .worlds)) in (
+      omega arith,
+      one ∙ ap (λ w. placedIn local (now (a .places)) w id) (l .inv .1) ∙ sym (foldl-more (placedIn local (now (a .places))) _ (now (a .order)) (l .k) 0 (omega arith)),
+      search needs,
+    )
 
 returns : tie.Need-returns Inv-loop μ-loop
 returns c =
