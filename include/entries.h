@@ -98,4 +98,25 @@ uint32_t tables_number(const uint32_t *words, size_t words_len, const float *flo
                        const float *node_weights, size_t node_weights_len, const float *mesh_weights,
                        size_t mesh_weights_len, Header header);
 
+/* The mark of each node at the start of `out`: 0 for none, 1 for a root, p + 3 where node p lists it. Answers 1, 2, 10 or
+   0; where it is not 0, `out` is as lent. */
+uint32_t parents(const uint32_t *words, size_t words_len, const float *floats, size_t floats_len,
+                 const float *node_weights, size_t node_weights_len, const float *mesh_weights, size_t mesh_weights_len,
+                 Header header, uint32_t *out, size_t out_len);
+
+/* A refusal number, or 0, and the entries taken. */
+typedef struct {
+    uint32_t number;
+    size_t taken;
+} Answer;
+
+/* Where every node stands in a given pose: the code of its place in `places`, as for `parents`, and its world in `worlds`,
+   sixteen floats each. A pose slot is four words of `marks` and ten floats of `slots`; the walk room has two words an entry.
+   Answers 1, 2, 6 or 0; where it is not 0, nothing is changed. */
+Answer place_floats(const uint32_t *words, size_t words_len, const float *floats, size_t floats_len,
+                    const float *node_weights, size_t node_weights_len, const float *mesh_weights,
+                    size_t mesh_weights_len, Header header, const uint32_t *marks, size_t marks_len, const float *slots,
+                    size_t slots_len, uint32_t *walk, size_t walk_len, uint32_t *places, size_t places_len, float *worlds,
+                    size_t worlds_len);
+
 #endif

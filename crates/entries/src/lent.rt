@@ -1,7 +1,10 @@
 // Calls on a scene that is lent in tables (docs/TABLES.md).
 use tables::Header;
+use worlds::Answer;
 ghost use mathlib.Core.Path.{_≡_};
 ghost use Rattle.checks.specs.Drawn.{lentAs, tablesNumber};
+ghost use Rattle.graph.specs.Marks.{Parents};
+ghost use Rattle.worlds.specs.Placed.{Placed};
 
 // 1, 2 or 0: what the tables draw, over all that is lent.
 #[no_mangle]
@@ -15,4 +18,50 @@ pub extern "C" fn tables_number(
     ensures { λ r. ⌜ r ≡ tablesNumber (lentAs (now (words .entry)) (now (floats .entry)) (now («node_weights» .entry)) (now («mesh_weights» .entry)) header) ⌝ }
 {
     checks::tables_number(words, floats, node_weights, mesh_weights, header)
+}
+
+// The mark of each node, written to the start of `out`: 0 for none, 1 for a root, p + 3 where node p lists it. Answers 1, 2,
+// 10 or 0.
+#[no_mangle]
+pub extern "C" fn parents(
+    words: &[u32],
+    floats: &[f32],
+    node_weights: &[f32],
+    mesh_weights: &[f32],
+    header: Header,
+    out: &mut [u32],
+) -> u32
+    ensures { λ r. ⌜ Parents (lentAs (now (words .entry)) (now (floats .entry)) (now («node_weights» .entry)) (now («mesh_weights» .entry)) header) (now (out .entry)) (now (out .exit)) r ⌝ }
+{
+    graph::parents(words, floats, node_weights, mesh_weights, header, out)
+}
+
+// Where every node stands in a given pose. Answers 1, 2, 6 or 0, and the entries taken.
+#[no_mangle]
+pub extern "C" fn place_floats(
+    words: &[u32],
+    floats: &[f32],
+    node_weights: &[f32],
+    mesh_weights: &[f32],
+    header: Header,
+    marks: &[u32],
+    slots: &[f32],
+    walk: &mut [u32],
+    places: &mut [u32],
+    worlds: &mut [f32],
+) -> Answer
+    ensures { λ r. ⌜ Placed (lentAs (now (words .entry)) (now (floats .entry)) (now («node_weights» .entry)) (now («mesh_weights» .entry)) header) (now (marks .entry)) (now (slots .entry)) (now (walk .entry)) (now (walk .exit)) (now (places .entry)) (now (places .exit)) (now (worlds .entry)) (now (worlds .exit)) r ⌝ }
+{
+    worlds::posed_node_transforms(
+        words,
+        floats,
+        node_weights,
+        mesh_weights,
+        header,
+        marks,
+        slots,
+        walk,
+        places,
+        worlds,
+    )
 }

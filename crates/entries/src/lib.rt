@@ -13,6 +13,8 @@ pub use inverses::scene_normal_matrix;
 pub use leaves::narrow_all;
 pub use leaves::sqrt_all;
 pub use leaves::turn_weight_all;
+pub use lent::parents;
+pub use lent::place_floats;
 pub use lent::tables_number;
 pub use matrices::scene_affine_point;
 pub use matrices::scene_from_matrix;
