@@ -119,4 +119,12 @@ Answer place_floats(const uint32_t *words, size_t words_len, const float *floats
                     size_t slots_len, uint32_t *walk, size_t walk_len, uint32_t *places, size_t places_len, float *worlds,
                     size_t worlds_len);
 
+/* The pose of every node at a time, in slots of four words and ten floats. The words mark translation, rotation and scale;
+   the fourth is 1 + the channel that gives the morph weights, or 0. Floats that are not posed are 0. Answers 1, 2, 3, 5, 6
+   or 0; where it is not 0, nothing is changed. */
+uint32_t sample_pose(const uint32_t *words, size_t words_len, const float *floats, size_t floats_len,
+                     const float *node_weights, size_t node_weights_len, const float *mesh_weights,
+                     size_t mesh_weights_len, Header header, float time, uint32_t *marks, size_t marks_len, float *slots,
+                     size_t slots_len);
+
 #endif

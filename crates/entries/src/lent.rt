@@ -4,6 +4,7 @@ use worlds::Answer;
 ghost use mathlib.Core.Path.{_≡_};
 ghost use Rattle.checks.specs.Drawn.{lentAs, tablesNumber};
 ghost use Rattle.graph.specs.Marks.{Parents};
+ghost use Rattle.pose.specs.Encoded.{Posed};
 ghost use Rattle.worlds.specs.Placed.{Placed};
 
 // 1, 2 or 0: what the tables draw, over all that is lent.
@@ -63,5 +64,31 @@ pub extern "C" fn place_floats(
         walk,
         places,
         worlds,
+    )
+}
+
+// The pose of every node at a time, in lent slots of four words and ten floats. Answers 1, 2, 3, 5, 6 or 0.
+#[no_mangle]
+pub extern "C" fn sample_pose(
+    words: &[u32],
+    floats: &[f32],
+    node_weights: &[f32],
+    mesh_weights: &[f32],
+    header: Header,
+    time: f32,
+    marks: &mut [u32],
+    slots: &mut [f32],
+) -> u32
+    ensures { λ r. ⌜ Posed (lentAs (now (words .entry)) (now (floats .entry)) (now («node_weights» .entry)) (now («mesh_weights» .entry)) header) time (now (marks .entry)) (now (slots .entry)) (now (marks .exit)) (now (slots .exit)) r ⌝ }
+{
+    pose::sample_pose(
+        words,
+        floats,
+        node_weights,
+        mesh_weights,
+        header,
+        time,
+        marks,
+        slots,
     )
 }

@@ -15,6 +15,7 @@ pub use leaves::sqrt_all;
 pub use leaves::turn_weight_all;
 pub use lent::parents;
 pub use lent::place_floats;
+pub use lent::sample_pose;
 pub use lent::tables_number;
 pub use matrices::scene_affine_point;
 pub use matrices::scene_from_matrix;

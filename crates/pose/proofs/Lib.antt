@@ -1,2 +1,12 @@
 pub mod Overlaid
 pub mod SlotLaws
+pub mod LineLaws
+pub mod GiftLaws
+pub mod SampledGifts
+pub mod RowLaws
+pub mod SizeLaws
+pub mod EncodeLaws
+pub mod StepLaws
+pub mod ClearLaws
+pub mod CallLaws
+pub mod WeightLaws

@@ -1,5 +1,5 @@
--- The pose of a node as the code holds it, and in lent slots: four words and ten floats a node (docs/TABLES.md). The weights are not held: the
--- fourth word names the channel that gives them. Definitions only.
+-- The pose of a node as the code holds it, and in lent slots: four words and ten floats a node. The weights are not held: the fourth word names
+-- the channel that gives them. Definitions only.
 use mathlib.Core.Bool.{Bool, true, false}
 use mathlib.Core.List.{List, [], _∷_, _++_}
 use mathlib.Core.Option.{Option, none, some}

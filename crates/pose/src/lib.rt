@@ -2,9 +2,15 @@
 use scene::Quat;
 use scene::Vec3;
 
+mod calls;
+mod gifts;
+mod lines;
 mod overlay;
+mod sampler;
 mod slots;
 
+pub use calls::pose_number;
+pub use calls::sample_pose;
 pub use overlay::local_transform;
 pub use slots::pose_at;
 

@@ -1,0 +1,40 @@
+-- `pose::calls::fill` meets its contract. Assumes nothing.
+use mathlib.Core.Path.{_≡_, sym, ap, _∙_}
+use Prim.Native.Nat.{ℕ, _≤_}
+use native.Mathlib.Omega.{arith}
+use borrow.Author.Needs.{needs}
+use denote.Ref.{now}
+use Rattle.model.specs.Lists.{tabulate}
+use Rattle.tables.specs.Records.{channelRow}
+use Rattle.pose.specs.Lines.{channelIn}
+use Rattle.pose.proofs.ClearLaws.{cleared-words, cleared-floats, over-words, over-floats}
+use Rattle.pose.proofs.calls.fill.Statement.{statement}
+use Rattle.pose.proofs.calls.fill.Tie as tie
+
+drive-all-requires : tie.Need-drive-all-requires
+drive-all-requires c κs =
+    let d = c .before .before .before .before .before .before in
+    let s = d .before .before .before .before .before .before .before in
+    let a = s .args in
+    let e = d .clear .ensures in
+    (s .pre .0, s .pre .1, s .pre .2, omega (arith, s .pre .3), s .pre .4, cleared-words (a .n) (now (a .marks)) _ (e .0), cleared-floats (a .n) (now (a .slots)) _ (e .1))
+
+returns : tie.Need-returns
+returns c =
+    let v = c .before .before .before .before in
+    let d = v .before .before .before .before .before .before .before in
+    let a = d .before .before .before .before .before .before .before .args in
+    let ts = tabulate (a .channels .count) (λ k. channelIn (now (a .floats)) (channelRow (now (a .words)) (a .channels) k)) in (
+      v .drive-all .ensures .0 ∙ over-words (a .time) (a .n) ts (now (a .marks)) _ (d .clear .ensures .0),
+      v .drive-all .ensures .1 ∙ over-floats (a .time) (a .n) ts (now (a .slots)) _ (d .clear .ensures .1),
+    )
+
+pub fill-spec : {M : Type 1} → statement M
+fill-spec =
+    tie.close
+    (tie.spec
+    (λ c κs. search needs)
+    drive-all-requires
+    (λ c. search needs)
+    (λ c. search needs)
+    returns)

@@ -1,0 +1,30 @@
+-- A channel of the lent tables, and whether its keys are out of line. Definitions only.
+use mathlib.Core.Path.{_≡_}
+use mathlib.Core.Bool.{Bool, false, not, _&&_}
+use mathlib.Core.List.{List}
+use Prim.Native.Nat.{ℕ, _<_}
+use lib.Dec.{ltb}
+use lib.Ieee.{Float}
+use Rattle.model.specs.Scene.{Track}
+use Rattle.model.specs.Sampling.{even, inLine}
+use Rattle.animation.specs.declared.Part.{Part}
+use Rattle.animation.specs.Tracks.{trackIn, tableNumber}
+use Rattle.tables.specs.declared.ChannelRow.{ChannelRow}
+use Rattle.tables.specs.Records.{channelRow}
+use Rattle.tables.specs.Tags.{propertyFor, trackFor}
+use Rattle.tables.specs.Decoded.{driving}
+
+-- what a record says: `channelOf` of the tables, which takes in the floats alone
+abbrev pub channelIn : List Float → ChannelRow → Track
+channelIn floats r = driving (r .target) (propertyFor (r .property)) (trackIn floats (trackFor r))
+
+-- an even track that is aimed at one of n nodes, with keys that are not in line
+abbrev pub outOfLine : ℕ → Track → Bool
+outOfLine n t = ltb (t .target) n && even t && not (inLine (t .keys))
+
+-- no track leaves the floats or passes a limit
+abbrev pub NoneDrawn : List ℕ → List Float → Part → Type 0
+NoneDrawn words floats channels = (k : ℕ) → k < channels .count → tableNumber floats (trackFor (channelRow words channels k)) ≡ 0
+
+abbrev pub AllInLine : List ℕ → List Float → Part → ℕ → Type 0
+AllInLine words floats channels n = (k : ℕ) → k < channels .count → outOfLine n (channelIn floats (channelRow words channels k)) ≡ false

@@ -1,0 +1,105 @@
+use crate::lines::keys_out_of_line;
+use crate::sampler::clear;
+use crate::sampler::drive_all;
+use animation::Part;
+use tables::Header;
+ghost use mathlib.Core.Path.{_≡_};
+ghost use mathlib.Core.Bool.{false};
+ghost use Prim.Native.Nat.{_/_, _≤_, min};
+ghost use lib.Ieee.{isNan};
+ghost use Rattle.model.specs.Lists.{tabulate};
+ghost use Rattle.model.specs.Refusals.{poseNumber};
+ghost use Rattle.tables.specs.Records.{channelRow};
+ghost use Rattle.tables.specs.Decoded.{sceneOf};
+ghost use Rattle.checks.specs.Drawn.{lentAs, tablesNumber};
+ghost use Rattle.pose.specs.Slots.{room};
+ghost use Rattle.pose.specs.Lines.{channelIn, NoneDrawn, AllInLine};
+ghost use Rattle.pose.specs.Encoded.{encodedWords, encodedFloats, Posed};
+
+// How many nodes slices of such lengths have slots for.
+fn slots_in(marks: usize, slots: usize) -> usize
+    ensures { λ r. ⌜ r ≡ min (marks / 4) (slots / 10) ⌝ }
+{
+    let a = marks / 4;
+    let b = slots / 10;
+    if a < b { a } else { b }
+}
+
+// The number of a call for the pose at a time, with slots for so many nodes.
+pub fn pose_number(
+    words: &[u32],
+    floats: &[f32],
+    node_weights: &[f32],
+    mesh_weights: &[f32],
+    h: Header,
+    time: f32,
+    slots: usize,
+) -> u32
+    ensures { λ r. ⌜ r ≡ poseNumber (tablesNumber (lentAs (now (words .entry)) (now (floats .entry)) (now («node_weights» .entry)) (now («mesh_weights» .entry)) h)) (sceneOf (lentAs (now (words .entry)) (now (floats .entry)) (now («node_weights» .entry)) (now («mesh_weights» .entry)) h)) time slots ⌝ }
+{
+    let drawn = checks::tables_number(words, floats, node_weights, mesh_weights, h);
+    if drawn != 0 {
+        return drawn;
+    }
+    if float::is_nan(time) {
+        return 3;
+    }
+    if keys_out_of_line(words, floats, h) {
+        return 5;
+    }
+    let graph = h.graph;
+    if slots < graph.nodes.count {
+        return 6;
+    }
+    0
+}
+
+// The poses of n nodes, from slots that hold anything.
+fn fill(
+    words: &[u32],
+    floats: &[f32],
+    channels: Part,
+    n: usize,
+    time: f32,
+    marks: &mut [u32],
+    slots: &mut [f32],
+)
+    requires { ⌜ NoneDrawn (now words) (now floats) channels × (isNan time ≡ false) × AllInLine (now words) (now floats) channels n × (n ≤ room (now marks) (now slots)) × (channels .count ≤ 1024) ⌝ }
+    ensures { λ _. ⌜ (now (marks .exit) ≡ encodedWords time n (tabulate (channels .count) (λ k. channelIn (now (floats .entry)) (channelRow (now (words .entry)) channels k))) (now (marks .entry))) × (now (slots .exit) ≡ encodedFloats time n (tabulate (channels .count) (λ k. channelIn (now (floats .entry)) (channelRow (now (words .entry)) channels k))) (now (slots .entry))) ⌝ }
+{
+    clear(marks, slots, n);
+    drive_all(words, floats, channels, n, time, marks, slots);
+}
+
+// The pose of every node at a time, in lent slots: four words and ten floats a node. The words are marks for translation,
+// rotation and scale, and 1 + the channel that gives the morph weights, or 0; floats that are not posed are 0. Refused,
+// both slices stay as lent.
+pub fn sample_pose(
+    words: &[u32],
+    floats: &[f32],
+    node_weights: &[f32],
+    mesh_weights: &[f32],
+    h: Header,
+    time: f32,
+    marks: &mut [u32],
+    slots: &mut [f32],
+) -> u32
+    ensures { λ r. ⌜ Posed (lentAs (now (words .entry)) (now (floats .entry)) (now («node_weights» .entry)) (now («mesh_weights» .entry)) h) time (now (marks .entry)) (now (slots .entry)) (now (marks .exit)) (now (slots .exit)) r ⌝ }
+{
+    let space = slots_in(marks.len(), slots.len());
+    let number = pose_number(words, floats, node_weights, mesh_weights, h, time, space);
+    if number != 0 {
+        return number;
+    }
+    let graph = h.graph;
+    fill(
+        words,
+        floats,
+        h.channels,
+        graph.nodes.count,
+        time,
+        marks,
+        slots,
+    );
+    0
+}

@@ -1,0 +1,124 @@
+use crate::NodePose;
+use crate::gifts::Gift;
+use crate::gifts::gift_at;
+use crate::gifts::receive;
+use crate::slots::at_rest;
+use crate::slots::pose_at;
+use crate::slots::store_pose;
+use animation::Part;
+use tables::ChannelRow;
+ghost use mathlib.Core.Path.{_≡_};
+ghost use mathlib.Core.Bool.{false, not, _&&_};
+ghost use Prim.Native.Nat.{_+_, _≤_, _<_};
+ghost use lib.Ieee.{isNan};
+ghost use Rattle.model.specs.Lists.{pick, tabulate};
+ghost use Rattle.model.specs.Sampling.{even, inLine};
+ghost use Rattle.animation.specs.Tracks.{tableNumber};
+ghost use Rattle.tables.specs.Records.{channelRow};
+ghost use Rattle.tables.specs.Tags.{trackFor};
+ghost use Rattle.pose.specs.Slots.{poseOf, room};
+ghost use Rattle.pose.specs.Lines.{channelIn, outOfLine, NoneDrawn, AllInLine};
+ghost use Rattle.pose.specs.Gifts.{bare, bringsWeights};
+ghost use Rattle.pose.specs.Encoded.{clearedWords, clearedFloats, encodedWords, encodedFloats, driven, drivenWord, Driven};
+
+// What a slot holds.
+struct Slot {
+    pose: NodePose,
+    word: u32,
+}
+
+// The word for the weights after channel k.
+fn word_after(g: Gift, k: usize, word: u32) -> u32
+    requires { ⌜ k < 1024 ⌝ }
+    ensures { λ r. ⌜ r ≡ pick (bringsWeights g) (k + 1) word ⌝ }
+{
+    match g {
+        Gift::Translation(_) => word,
+        Gift::Rotation(_) => word,
+        Gift::Scale(_) => word,
+        Gift::Weights => (k + 1) as u32,
+        Gift::Nothing => word,
+    }
+}
+
+// The slot of the node that channel k is aimed at, after that channel.
+fn slot_after(
+    floats: &[f32],
+    row: ChannelRow,
+    k: usize,
+    time: f32,
+    marks: &[u32],
+    slots: &[f32],
+) -> Slot
+    requires { ⌜ (tableNumber (now floats) (trackFor row) ≡ 0) × (isNan time ≡ false) × ((even (channelIn (now floats) row) && not (inLine (channelIn (now floats) row .keys))) ≡ false) × (row .target < room (now marks) (now slots)) × (k < 1024) ⌝ }
+    ensures { λ r. ⌜ (poseOf (r .pose) ≡ bare (driven time (channelIn (now (floats .entry)) row) (now (marks .entry)) (now (slots .entry)))) × (r .word ≡ drivenWord time (channelIn (now (floats .entry)) row) k (now (marks .entry))) ⌝ }
+{
+    let g = gift_at(floats, row, time);
+    let i = row.target as usize;
+    let at = i * 4 + 3;
+    Slot {
+        pose: receive(pose_at(marks, slots, i), g),
+        word: word_after(g, k, marks[at]),
+    }
+}
+
+// Channel k, which is passed over where it is aimed past the last node.
+fn drive(
+    floats: &[f32],
+    row: ChannelRow,
+    k: usize,
+    n: usize,
+    time: f32,
+    marks: &mut [u32],
+    slots: &mut [f32],
+)
+    requires { ⌜ (tableNumber (now floats) (trackFor row) ≡ 0) × (isNan time ≡ false) × (outOfLine n (channelIn (now floats) row) ≡ false) × (n ≤ room (now marks) (now slots)) × (k < 1024) ⌝ }
+    ensures { λ _. ⌜ Driven time n k (channelIn (now (floats .entry)) row) (now (marks .entry)) (now (slots .entry)) (now (marks .exit)) (now (slots .exit)) ⌝ }
+{
+    let i = row.target as usize;
+    if i < n {
+        let slot = slot_after(floats, row, k, time, marks, slots);
+        store_pose(marks, slots, i, slot.pose, slot.word);
+    }
+}
+
+// All channels, in order, from slots in which nothing is posed.
+pub(crate) fn drive_all(
+    words: &[u32],
+    floats: &[f32],
+    channels: Part,
+    n: usize,
+    time: f32,
+    marks: &mut [u32],
+    slots: &mut [f32],
+)
+    requires { ⌜ NoneDrawn (now words) (now floats) channels × (isNan time ≡ false) × AllInLine (now words) (now floats) channels n × (n ≤ room (now marks) (now slots)) × (channels .count ≤ 1024) × (now marks ≡ clearedWords n (now marks)) × (now slots ≡ clearedFloats n (now slots)) ⌝ }
+    ensures { λ _. ⌜ (now (marks .exit) ≡ encodedWords time n (tabulate (channels .count) (λ k. channelIn (now (floats .entry)) (channelRow (now (words .entry)) channels k))) (now (marks .entry))) × (now (slots .exit) ≡ encodedFloats time n (tabulate (channels .count) (λ k. channelIn (now (floats .entry)) (channelRow (now (words .entry)) channels k))) (now (slots .entry))) ⌝ }
+{
+    let count = channels.count;
+    let mut k: usize = 0;
+    while k < count {
+        drive(
+            floats,
+            tables::channel_row(words, channels, k),
+            k,
+            n,
+            time,
+            marks,
+            slots,
+        );
+        k += 1;
+    }
+}
+
+// Slots for n nodes in which nothing is posed.
+pub(crate) fn clear(marks: &mut [u32], slots: &mut [f32], n: usize)
+    requires { ⌜ n ≤ room (now marks) (now slots) ⌝ }
+    ensures { λ _. ⌜ (now (marks .exit) ≡ clearedWords n (now (marks .entry))) × (now (slots .exit) ≡ clearedFloats n (now (slots .entry))) ⌝ }
+{
+    let mut i: usize = 0;
+    while i < n {
+        store_pose(marks, slots, i, at_rest(), 0);
+        i += 1;
+    }
+}
