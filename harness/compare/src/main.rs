@@ -13,6 +13,7 @@
 //! libentries.a, where they are not in their usual places (see the build
 //! scripts).
 
+mod graph;
 mod leaves;
 mod list;
 mod matrices;
@@ -30,12 +31,13 @@ use std::{env, io, process::ExitCode};
 type Area = (&'static str, fn() -> bool);
 
 /// From the leaves up.
-const AREAS: [Area; 5] = [
+const AREAS: [Area; 6] = [
     ("leaves", leaves::compare),
     ("matrices", matrices::compare),
     ("sampling", sampling::compare),
     ("placing", placing::compare),
     ("tables", tables::compare),
+    ("graph", graph::compare),
 ];
 
 fn main() -> io::Result<ExitCode> {
@@ -80,4 +82,5 @@ fn speed() {
     matrices::speed::measure();
     sampling::speed::measure();
     tables::speed::measure();
+    graph::speed::measure();
 }

@@ -8,14 +8,11 @@ const PROVED: u32 = 1932848604;
 
 pub fn compare() -> bool {
     let (mut listings, mut sum) = (0, 7);
-    for n in 1..=3 {
-        for k in 0..1 << (n + n * n) {
-            let scene = listing(n, k);
-            let places = places(&scene);
-            sum = places.iter().fold(sum, |sum, place| mix(sum, *place));
-            sum = mix(sum, taken(&scene, &places));
-            listings += 1;
-        }
+    for scene in all_listings() {
+        let places = places(&scene);
+        sum = places.iter().fold(sum, |sum, place| mix(sum, *place));
+        sum = mix(sum, taken(&scene, &places));
+        listings += 1;
     }
     println!("placing: {listings} listings, checksum {sum}");
     sum == PROVED
@@ -23,6 +20,10 @@ pub fn compare() -> bool {
 
 fn mix(sum: u32, x: u32) -> u32 {
     sum.wrapping_mul(31).wrapping_add(x)
+}
+
+pub fn all_listings() -> impl Iterator<Item = Scene3D> {
+    (1..=3).flat_map(|n| (0..1 << (n + n * n)).map(move |k| listing(n, k)))
 }
 
 /// Listing k of n nodes: its binary digits, the top one first, tell of each
@@ -55,7 +56,7 @@ fn own_x(i: u32) -> f32 {
 }
 
 /// Of each node: 0 where it is not placed, 1 for a root, p + 2 below node p.
-fn places(scene: &Scene3D) -> Vec<u32> {
+pub fn places(scene: &Scene3D) -> Vec<u32> {
     let worlds = scene.posed_node_transforms(&Pose::new(scene.nodes.len()));
     let xs: Vec<Option<f32>> = worlds.iter().map(|w| w.map(|m| m[0][3])).collect();
     let place = |(i, x): (u32, &Option<f32>)| {

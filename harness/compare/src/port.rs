@@ -1,5 +1,9 @@
 //! The foreign functions, each safe to call: the port's entries and the C
-//! library's clock. No other module has unsafe code.
+//! library's clock. No module outside has unsafe code.
+
+mod lent;
+
+pub use lent::*;
 
 /// Row by row.
 pub type Mat4 = [[f32; 4]; 4];
@@ -80,18 +84,6 @@ mod foreign {
             values_count: usize,
         ) -> usize;
         pub fn keys_in_line_floats(keys: *const f32, keys_len: usize) -> u32;
-
-        pub fn tables_number(
-            words: *const u32,
-            words_len: usize,
-            floats: *const f32,
-            floats_len: usize,
-            node_weights: *const f32,
-            node_weights_len: usize,
-            mesh_weights: *const f32,
-            mesh_weights_len: usize,
-            header: super::Header,
-        ) -> u32;
 
         pub fn clock_gettime(clock: i32, time: *mut Timespec) -> i32;
     }
@@ -232,75 +224,6 @@ pub fn stride(track: &Track) -> usize {
 pub fn keys_in_line(keys: &[f32]) -> bool {
     // SAFETY: the entry reads the keys alone.
     unsafe { foreign::keys_in_line_floats(keys.as_ptr(), keys.len()) == 1 }
-}
-
-/// Where a table starts in the words, and how many records it has.
-#[derive(Clone, Copy, Debug, Default)]
-#[repr(C)]
-pub struct Part {
-    pub at: usize,
-    pub count: usize,
-}
-
-#[derive(Clone, Copy, Debug, Default)]
-#[repr(C)]
-pub struct Graph {
-    pub nodes: Part,
-    pub roots: Part,
-}
-
-#[derive(Clone, Copy, Debug, Default)]
-#[repr(C)]
-pub struct Meshes {
-    pub meshes: Part,
-    pub primitives: Part,
-    pub targets: Part,
-    pub in_betweens: Part,
-}
-
-#[derive(Clone, Copy, Debug, Default)]
-#[repr(C)]
-pub struct Skins {
-    pub skins: Part,
-    pub skeletons: Part,
-}
-
-#[derive(Clone, Copy, Debug, Default)]
-#[repr(C)]
-pub struct Header {
-    pub graph: Graph,
-    pub channels: Part,
-    pub meshes: Meshes,
-    pub skins: Skins,
-}
-
-/// A scene as it is lent; docs/TABLES.md has the layout.
-#[derive(Clone, Copy, Debug)]
-pub struct Tables<'a> {
-    pub words: &'a [u32],
-    pub floats: &'a [f32],
-    pub node_weights: &'a [f32],
-    pub mesh_weights: &'a [f32],
-    pub header: Header,
-}
-
-/// What the tables draw: 1, 2, or 0.
-pub fn tables_number(lent: &Tables) -> u32 {
-    // SAFETY: the entry reads inside what it is lent, whatever the header and
-    // the words say.
-    unsafe {
-        foreign::tables_number(
-            lent.words.as_ptr(),
-            lent.words.len(),
-            lent.floats.as_ptr(),
-            lent.floats.len(),
-            lent.node_weights.as_ptr(),
-            lent.node_weights.len(),
-            lent.mesh_weights.as_ptr(),
-            lent.mesh_weights.len(),
-            lent.header,
-        )
-    }
 }
 
 /// CPU time of this process so far, in nanoseconds.

@@ -1,15 +1,15 @@
 //! A scene as it is lent: the layout of its tables, and the number that they
 //! draw.
 
-mod build;
+pub mod build;
 mod decode;
 mod example;
 mod fields;
-mod generate;
+pub mod generate;
 mod hostile;
-mod layout;
+pub mod layout;
 mod limits;
-mod numbers;
+pub mod numbers;
 mod round_trip;
 mod same;
 pub mod speed;

@@ -1,0 +1,75 @@
+//! The speed of both walks on trees, per node.
+
+use super::{answers::Answers, poses::Posed, scenes::tree};
+use crate::{
+    measure::side_by_side,
+    port::{self, Placed},
+    rng::Rng,
+    tables::{
+        build::lend,
+        layout::{Layout, Lent},
+    },
+};
+use oracle::{Animation, Scene3D};
+use std::hint::black_box;
+
+pub fn measure() {
+    for nodes in [64, 1_024] {
+        let scene = tree(&mut Rng::new(1), nodes);
+        let animation = Animation {
+            name: None,
+            channels: Vec::new(),
+        };
+        let lent = lend(&scene, &animation, &mut Layout::Compact);
+        measure_places(&scene, &lent);
+        measure_parents(&scene, &lent);
+    }
+}
+
+fn measure_places(scene: &Scene3D, lent: &Lent) {
+    let nodes = scene.nodes.len();
+    let posed = Posed::plain(&mut Rng::new(2), nodes);
+    let pose = posed.of_rust(nodes);
+    let taken = Answers::of(scene, &pose).taken;
+    let mut walk = vec![0; 2 * taken];
+    let (mut places, mut worlds) = (vec![0; nodes], vec![0.0; 16 * nodes]);
+    let lent = lent.of_port();
+    let mut place = || {
+        port::place_floats(
+            black_box(&lent),
+            &posed.marks,
+            &posed.slots,
+            &mut walk,
+            &mut places,
+            &mut worlds,
+        )
+    };
+    assert_eq!(place(), Placed { number: 0, taken });
+    side_by_side(
+        &format!("place_floats, nodes {nodes}"),
+        nodes,
+        || {
+            black_box(place());
+        },
+        || {
+            black_box(black_box(scene).posed_node_transforms(&pose));
+        },
+    );
+}
+
+fn measure_parents(scene: &Scene3D, lent: &Lent) {
+    let nodes = scene.nodes.len();
+    let mut out = vec![0; nodes];
+    let lent = lent.of_port();
+    assert_eq!(port::parents(&lent, &mut out), 0, "the speed of a refusal");
+    side_by_side(
+        &format!("parents, nodes {nodes}"),
+        nodes,
+        || {
+            black_box(port::parents(black_box(&lent), &mut out));
+        },
+        || {
+            black_box(black_box(scene).parents());
+        },
+    );
+}
