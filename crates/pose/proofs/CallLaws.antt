@@ -7,7 +7,6 @@ use native.Mathlib.Omega.{arith}
 use borrow.Author.Tests.{ltb-false}
 use lib.Dec.{ltb}
 use lib.Ieee.{Float, isNan}
-use lib.ListN.{length}
 use Rattle.model.specs.Lists.{pick, anyOf, tabulate}
 use Rattle.model.specs.Scene.{Scene, nodeCount}
 use Rattle.model.specs.Refusals.{firstOf, lowest, someKeysOutOfLine, poseNumber}

@@ -1,7 +1,7 @@
 -- Slots in which nothing is posed: one more, as all slots before the first channel, and under what is posed later. Assumes nothing.
 use mathlib.Core.Path.{_≡_, refl, sym, ap, _∙_}
-use mathlib.Core.List.{List, [], _++_}
-use Prim.Native.Nat.{ℕ, zero, _+_, _*_, _≤_, _<_}
+use mathlib.Core.List.{List, _++_}
+use Prim.Native.Nat.{ℕ, _+_, _*_, _<_}
 use native.Mathlib.Numerals.{add-one}
 use lib.Ieee.{Float}
 use lib.ListN.{getD, drop, getD-replicate}

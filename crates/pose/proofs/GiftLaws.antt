@@ -8,11 +8,8 @@ use Rattle.model.specs.Pose.{Pose, atRest, given, replaced}
 use Rattle.scene.specs.declared.Vec3.{Vec3}
 use Rattle.scene.specs.declared.Quat.{Quat}
 use Rattle.scene.specs.Values.{vec3, quat}
-use Rattle.tables.specs.declared.Property as tables
-use Rattle.tables.specs.Tags.{propertyOf}
-use Rattle.pose.specs.declared.gifts.Gift.{Gift}
 use Rattle.pose.specs.declared.gifts.Gift.the-variants as gift
-use Rattle.pose.specs.Gifts.{bare, received, bringsWeights, Gives}
+use Rattle.pose.specs.Gifts.{bare, Gives}
 
 -- a channel with no value changes nothing
 unposed : (q : Property) (p : Pose) → replaced q none p ≡ p

@@ -5,9 +5,8 @@ use mathlib.Core.List.{List}
 use Prim.Native.Nat.{ℕ, zero, suc, _≤_, _<_}
 use native.Mathlib.Omega.{arith}
 use borrow.Author.Tests.{lt-ltb, le-ltb}
-use lib.Dec.{eqb, ltb}
+use lib.Dec.{eqb}
 use lib.Ieee.{Float, isNan, ofBits}
-use lib.ListN.{length}
 use Rattle.float.specs.F32.{zero32}
 use Rattle.model.specs.Lists.{pick, anyOf, tabulate}
 use Rattle.model.specs.Scene as scene

@@ -1,22 +1,22 @@
 -- All slots after one channel more, and slots that are cleared. Assumes nothing.
 use mathlib.Core.Path.{_≡_, refl, sym, ap, _∙_, subst}
 use mathlib.Core.Bool.{Bool, true, false, _&&_}
-use mathlib.Core.List.{List, [], _∷_, _++_}
-use Prim.Native.Nat.{ℕ, zero, suc, _+_, _*_, _≤_, _<_}
+use mathlib.Core.List.{List, _++_}
+use Prim.Native.Nat.{ℕ, suc, _+_, _*_, _≤_, _<_}
 use native.Mathlib.Numerals.{add-one}
 use native.Mathlib.Omega.{arith}
 use borrow.Author.Tests.{eq-eqb, ne-eqb, ltb-true, ltb-false, lt-ltb, le-ltb}
-use lib.Dec.{eqb, ltb}
+use lib.Dec.{ltb}
 use lib.Ieee.{Float}
-use lib.ListN.{length, getD, set, drop}
+use lib.ListN.{getD, set, drop}
 use lib.Seq.{paste, getD-set-same, getD-set-other, set-out}
-use Rattle.model.specs.Lists.{pick, foldl, tabulate}
+use Rattle.model.specs.Lists.{pick, tabulate}
 use Rattle.model.specs.Scene.{Track}
 use Rattle.model.specs.Pose.{Pose, atRest, drive, driveAt, poses}
 use Rattle.model.proofs.Posing.{length-poses}
-use Rattle.pose.specs.Slots.{room, poseIn, wordsOf, floatsOf}
+use Rattle.pose.specs.Slots.{room, wordsOf, floatsOf}
 use Rattle.pose.specs.Gifts.{bare}
-use Rattle.pose.specs.Encoded.{rowsOf, givesWeights, standing, encodedWords, encodedFloats, driven, drivenWord, Driven}
+use Rattle.pose.specs.Encoded.{givesWeights, standing, encodedWords, encodedFloats, driven, drivenWord, Driven}
 use Rattle.pose.proofs.RowLaws.{rows-alike, put-row}
 use Rattle.pose.proofs.EncodeLaws.{bare-drive, fold-more, stands, stand-more, wordRow, floatRow, float-width, read-pose, read-word}
 

@@ -1,6 +1,5 @@
 -- `pose::calls::sample_pose` meets its contract. Assumes nothing.
 use mathlib.Core.Path.{ap, _∙_}
-use Prim.Native.Nat.{ℕ}
 use borrow.Author.Needs.{needs}
 use denote.Ref.{now}
 use Rattle.model.specs.Refusals.{poseNumber}

@@ -1,5 +1,5 @@
 -- `pose::gifts::gift_at` meets its contract. Assumes nothing.
-use mathlib.Core.Path.{_≡_, refl, subst}
+use mathlib.Core.Path.{refl, subst}
 use mathlib.Core.Option.{none}
 use borrow.Author.Needs.{needs}
 use denote.Ref.{now}

@@ -2,7 +2,7 @@
 use mathlib.Core.Path.{refl, sym, subst}
 use mathlib.Core.Option.{some}
 use borrow.Author.Needs.{needs}
-use Rattle.model.specs.Scene.{translation, rotation, scale, morphWeights, quats}
+use Rattle.model.specs.Scene.{translation, scale, morphWeights, quats}
 use Rattle.model.specs.Pose.{given}
 use Rattle.scene.specs.Values.{quat}
 use Rattle.tables.specs.declared.Property.{Property}

@@ -2,7 +2,7 @@
 use mathlib.Core.Path.{refl, sym, subst}
 use mathlib.Core.Option.{some}
 use borrow.Author.Needs.{needs}
-use Rattle.model.specs.Scene.{translation, rotation, scale, morphWeights, scalars}
+use Rattle.model.specs.Scene.{translation, rotation, scale, scalars}
 use Rattle.model.specs.Pose.{given}
 use Rattle.tables.specs.declared.Property.{Property}
 use Rattle.tables.specs.Tags.{propertyOf}

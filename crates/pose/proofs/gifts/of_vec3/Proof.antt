@@ -2,7 +2,7 @@
 use mathlib.Core.Path.{refl, sym, subst}
 use mathlib.Core.Option.{some}
 use borrow.Author.Needs.{needs}
-use Rattle.model.specs.Scene.{translation, rotation, scale, morphWeights, vec3s}
+use Rattle.model.specs.Scene.{rotation, morphWeights, vec3s}
 use Rattle.model.specs.Pose.{given}
 use Rattle.scene.specs.Values.{vec3}
 use Rattle.tables.specs.declared.Property.{Property}

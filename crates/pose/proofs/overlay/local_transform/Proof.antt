@@ -5,7 +5,6 @@ use Rattle.model.specs.Transform.{parts}
 use Rattle.scene.specs.Values.{vec3, quat, transformOf}
 use Rattle.pose.proofs.Overlaid.{some-posed, none-posed}
 use Rattle.pose.proofs.overlay.local_transform.Statement.{statement}
-use Rattle.pose.proofs.overlay.local_transform.Lts as lts
 use Rattle.pose.proofs.overlay.local_transform.Tie as tie
 
 returns : tie.Need-returns

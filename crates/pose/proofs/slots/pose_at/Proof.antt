@@ -8,7 +8,6 @@ use denote.Ref.{now}
 use Rattle.pose.specs.Slots.{room}
 use Rattle.pose.proofs.SlotLaws.{cut-in-room, past-room}
 use Rattle.pose.proofs.slots.pose_at.Statement.{statement}
-use Rattle.pose.proofs.slots.pose_at.Lts as lts
 use Rattle.pose.proofs.slots.pose_at.Tie as tie
 
 returns : tie.Need-returns

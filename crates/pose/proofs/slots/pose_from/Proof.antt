@@ -9,7 +9,6 @@ use Rattle.model.specs.Lists.{part}
 use Rattle.model.proofs.ListLaws.{entriesFrom, by-entries}
 use Rattle.pose.specs.Slots.{when}
 use Rattle.pose.proofs.slots.pose_from.Statement.{statement}
-use Rattle.pose.proofs.slots.pose_from.Lts as lts
 use Rattle.pose.proofs.slots.pose_from.Tie as tie
 
 returns : tie.Need-returns

@@ -1,11 +1,11 @@
 -- `pose::slots::put_floats` meets its contract. Assumes nothing.
 use mathlib.Core.Path.{_≡_, refl, ap, _∙_}
-use Prim.Native.Nat.{ℕ, _+_, _-_, _<_, _≤_}
+use Prim.Native.Nat.{_+_, _-_, _<_, _≤_}
 use native.Mathlib.Omega.{arith}
 use borrow.Author.Needs.{needs}
 use denote.Ref.{now}
 use lib.Ieee.{nan}
-use lib.ListN.{length, length-set}
+use lib.ListN.{length}
 use lib.Seq.{paste, paste-zero}
 use Rattle.pose.proofs.SlotLaws.{one-more}
 use Rattle.pose.proofs.slots.put_floats.Statement.{statement}
