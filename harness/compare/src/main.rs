@@ -20,6 +20,7 @@ mod matrices;
 mod measure;
 mod placing;
 mod port;
+mod pose;
 mod rng;
 mod sampling;
 mod tables;
@@ -31,12 +32,13 @@ use std::{env, io, process::ExitCode};
 type Area = (&'static str, fn() -> bool);
 
 /// From the leaves up.
-const AREAS: [Area; 6] = [
+const AREAS: [Area; 7] = [
     ("leaves", leaves::compare),
     ("matrices", matrices::compare),
     ("sampling", sampling::compare),
     ("placing", placing::compare),
     ("tables", tables::compare),
+    ("pose", pose::compare),
     ("graph", graph::compare),
 ];
 

@@ -6,7 +6,7 @@ mod on_bytes;
 pub mod speed;
 mod stock;
 pub mod tracks;
-mod values;
+pub mod values;
 
 use crate::tally::one_nan_bits;
 
@@ -21,7 +21,7 @@ pub fn compare() -> bool {
 const KEY_LIMIT: usize = 65_535;
 const WEIGHT_LIMIT: usize = 64;
 
-fn same_bits(a: &[f32], b: &[f32]) -> bool {
+pub fn same_bits(a: &[f32], b: &[f32]) -> bool {
     let compared = |x: &f32| one_nan_bits(*x);
     a.iter().map(compared).eq(b.iter().map(compared))
 }

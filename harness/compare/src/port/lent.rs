@@ -62,6 +62,22 @@ mod foreign {
     use super::{Header, Placed};
 
     extern "C" {
+        pub fn sample_pose(
+            words: *const u32,
+            words_len: usize,
+            floats: *const f32,
+            floats_len: usize,
+            node_weights: *const f32,
+            node_weights_len: usize,
+            mesh_weights: *const f32,
+            mesh_weights_len: usize,
+            header: Header,
+            time: f32,
+            marks: *mut u32,
+            marks_len: usize,
+            slots: *mut f32,
+            slots_len: usize,
+        ) -> u32;
         pub fn tables_number(
             words: *const u32,
             words_len: usize,
@@ -184,6 +200,30 @@ pub fn place_floats(
             places.len(),
             worlds.as_mut_ptr(),
             worlds.len(),
+        )
+    }
+}
+
+/// The pose of every node, four words and ten floats each; answers the number,
+/// or 0.
+pub fn sample_pose(lent: &Tables, time: f32, marks: &mut [u32], slots: &mut [f32]) -> u32 {
+    // SAFETY: as for `tables_number`; the entry writes inside the two slices.
+    unsafe {
+        foreign::sample_pose(
+            lent.words.as_ptr(),
+            lent.words.len(),
+            lent.floats.as_ptr(),
+            lent.floats.len(),
+            lent.node_weights.as_ptr(),
+            lent.node_weights.len(),
+            lent.mesh_weights.as_ptr(),
+            lent.mesh_weights.len(),
+            lent.header,
+            time,
+            marks.as_mut_ptr(),
+            marks.len(),
+            slots.as_mut_ptr(),
+            slots.len(),
         )
     }
 }

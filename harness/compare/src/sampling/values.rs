@@ -87,14 +87,14 @@ impl Answer {
 
 /// How a value is compared.
 #[derive(Clone, Copy, PartialEq)]
-enum Rule {
+pub enum Rule {
     EqualBits,
     Turn,
     NotCompared,
 }
 
 impl Rule {
-    fn allows(self, rust: &Quat, port: &Quat) -> bool {
+    pub fn allows(self, rust: &Quat, port: &Quat) -> bool {
         match self {
             Rule::EqualBits => same_bits(rust, port),
             Rule::Turn => rust.iter().zip(port).all(|(a, b)| is_near(*a, *b)),
@@ -109,14 +109,14 @@ fn is_near(a: f32, b: f32) -> bool {
 
 /// Where a time lies among keys that are in line.
 #[derive(Clone, Copy, PartialEq)]
-enum Place {
+pub enum Place {
     Before,
     On,
     Between(usize),
     After,
 }
 
-fn place_of(keys: &[f32], time: f32) -> Place {
+pub fn place_of(keys: &[f32], time: f32) -> Place {
     let above = keys.partition_point(|key| *key <= time);
     if above == 0 {
         Place::Before
@@ -130,13 +130,13 @@ fn place_of(keys: &[f32], time: f32) -> Place {
 }
 
 /// A Linear turn, between two quaternions.
-struct Turn {
+pub struct Turn {
     ends: [Quat; 2],
     dot: f32,
 }
 
 impl Turn {
-    fn of(track: &Track, place: Place) -> Option<Self> {
+    pub fn of(track: &Track, place: Place) -> Option<Self> {
         match (&track.sampler.values, track.interpolation(), place) {
             (AnimationValues::Quat(rows), Interpolation::Linear, Place::Between(k)) => {
                 let (a, b) = (rows[k], rows[k + 1]);
@@ -148,7 +148,7 @@ impl Turn {
         }
     }
 
-    fn rule(&self) -> Rule {
+    pub fn rule(&self) -> Rule {
         let exceeds_one = self.ends.as_flattened().iter().any(|x| x.abs() > 1.0);
         match self.dot.abs() >= 1.0 {
             true => Rule::EqualBits,

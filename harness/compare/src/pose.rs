@@ -1,0 +1,395 @@
+//! `sample_pose` on scenes lent in both layouts. Where the port refuses, the
+//! number alone is expected, and both slices as lent. Otherwise the slots are
+//! those of the Rust's pose by bits, but for a rotation that stands by a Linear
+//! turn between keys that are not alike: it is compared by the rule of `sample`
+//! (sampling/values.rs). Where that rule compares nothing, either side may find
+//! the turn without length.
+
+use crate::{
+    port,
+    rng::Rng,
+    sampling::{
+        bits, same_bits,
+        tracks::{time, Track},
+        values::{place_of, Rule, Turn},
+    },
+    tables::{
+        build::lend,
+        generate::{scene, Sizes, SMALL},
+        layout::{Layout, Lent},
+        numbers::number,
+    },
+    tally::{Met, Tally, UNTOUCHED},
+};
+use oracle::{
+    Animation, AnimationChannel, AnimationProperty, AnimationTarget, AnimationValues, Pose,
+    SampledValue, Scene3D,
+};
+use std::array::from_fn;
+
+const SCENES: usize = 50_000;
+const TIMES: usize = 5;
+/// Few nodes, so that channels meet.
+const SIZES: Sizes = Sizes {
+    nodes: 3,
+    channels: 6,
+    meshes: 1,
+    primitives: 1,
+    ..SMALL
+};
+
+/// Of a node.
+const WORDS: usize = 4;
+const FLOATS: usize = 10;
+const LENT_WORD: u32 = 0xa5a5_a5a5;
+
+pub fn compare() -> bool {
+    let mut comparison = Comparison::new();
+    let mut rng = Rng::new(6);
+    let mut scenes = 0;
+    while scenes < SCENES {
+        let (scene, mut animation) = scene(&mut rng, &SIZES);
+        if rng.below(3) > 0 {
+            animation.channels.iter_mut().for_each(fit);
+        }
+        let spread = Layout::Spread(Rng::new(rng.bits()));
+        let lent =
+            [Layout::Compact, spread].map(|mut layout| lend(&scene, &animation, &mut layout));
+        if lent.iter().all(|lent| number(&lent.of_port()) == 0) {
+            comparison.count_times(&Moved::new(&scene, animation, &mut rng), &lent, &mut rng);
+            scenes += 1;
+        }
+    }
+    comparison.report()
+}
+
+/// Aims a channel at a property of its kind.
+fn fit(channel: &mut AnimationChannel) {
+    let property = &mut channel.target.property;
+    *property = match (&channel.sampler.values, *property) {
+        (AnimationValues::Quat(_), _) => AnimationProperty::Rotation,
+        (AnimationValues::Scalar(_), _) => AnimationProperty::MorphWeights,
+        (AnimationValues::Vec3(_), AnimationProperty::Scale) => AnimationProperty::Scale,
+        (AnimationValues::Vec3(_), _) => AnimationProperty::Translation,
+    };
+}
+
+/// A scene's animation.
+struct Moved {
+    nodes: usize,
+    animation: Animation,
+    /// Of each channel.
+    tracks: Vec<Track>,
+    /// The keys of every even track that is aimed at a node.
+    are_keys_in_line: bool,
+}
+
+/// What becomes of a channel, the first of these that applies.
+#[derive(Clone, Copy, PartialEq, PartialOrd)]
+enum Fate {
+    AimedPastNodes,
+    Uneven,
+    OfAnotherKind,
+    WithoutLength,
+    Given,
+}
+
+impl Moved {
+    fn new(scene: &Scene3D, animation: Animation, rng: &mut Rng) -> Self {
+        let nodes = scene.nodes.len();
+        let channels = animation.channels.iter();
+        let tracks: Vec<Track> = channels
+            .map(|channel| Track::new(channel.sampler.clone(), rng))
+            .collect();
+        let mut pairs = animation.channels.iter().zip(&tracks);
+        let are_keys_in_line = pairs.all(|(channel, track)| {
+            node_of(channel) >= nodes || !track.is_even() || track.has_keys_in_line()
+        });
+        Moved {
+            nodes,
+            animation,
+            tracks,
+            are_keys_in_line,
+        }
+    }
+
+    fn time(&self, rng: &mut Rng) -> f32 {
+        let keys = match self.tracks.len() {
+            0 => &[],
+            count => self.tracks[rng.below(count as u32) as usize].keys(),
+        };
+        time(rng, keys)
+    }
+
+    fn number(&self, time: f32, marks: usize, slots: usize) -> u32 {
+        if time.is_nan() {
+            3
+        } else if !self.are_keys_in_line {
+            5
+        } else if (marks / WORDS).min(slots / FLOATS) < self.nodes {
+            6
+        } else {
+            0
+        }
+    }
+
+    fn fate(&self, channel: &AnimationChannel, time: f32) -> Fate {
+        if node_of(channel) >= self.nodes {
+            return Fate::AimedPastNodes;
+        }
+        match (channel.target.property, channel.sampler.sample(time)) {
+            (_, None) => Fate::Uneven,
+            (AnimationProperty::Rotation, Some(SampledValue::Quat([x, y, z, w]))) => {
+                let length = (x * x + y * y + z * z + w * w).sqrt();
+                if length.is_finite() && length > 0.0 {
+                    Fate::Given
+                } else {
+                    Fate::WithoutLength
+                }
+            }
+            (AnimationProperty::MorphWeights, Some(SampledValue::Scalar(_)))
+            | (AnimationProperty::Translation, Some(SampledValue::Vec3(_)))
+            | (AnimationProperty::Scale, Some(SampledValue::Vec3(_))) => Fate::Given,
+            _ => Fate::OfAnotherKind,
+        }
+    }
+
+    /// Whether the Rust's weights of a node are those of the channel that the
+    /// word names.
+    fn has_weights(&self, weights: &Option<Vec<f32>>, word: u32, time: f32) -> bool {
+        let Some(channel) = (word as usize).checked_sub(1) else {
+            return weights.is_none();
+        };
+        let channel = self.animation.channels.get(channel);
+        match (
+            weights,
+            channel.and_then(|channel| channel.sampler.sample(time)),
+        ) {
+            (Some(weights), Some(SampledValue::Scalar(sampled))) => same_bits(weights, &sampled),
+            _ => false,
+        }
+    }
+}
+
+fn node_of(channel: &AnimationChannel) -> usize {
+    channel.target.node.0 as usize
+}
+
+/// What a call answers, and leaves in what it is lent.
+struct Answer {
+    number: u32,
+    marks: Vec<u32>,
+    slots: Vec<f32>,
+}
+
+impl Answer {
+    fn refused(number: u32, marks: usize, slots: usize) -> Self {
+        Answer {
+            number,
+            marks: vec![LENT_WORD; marks],
+            slots: vec![UNTOUCHED; slots],
+        }
+    }
+
+    fn of_port(lent: &Lent, time: f32, marks: usize, slots: usize) -> Self {
+        let mut answer = Answer::refused(0, marks, slots);
+        let (marks, slots) = (&mut answer.marks, &mut answer.slots);
+        answer.number = port::sample_pose(&lent.of_port(), time, marks, slots);
+        answer
+    }
+
+    /// The fourth words are given.
+    fn put(&mut self, pose: &Pose, standing: &[u32]) {
+        let (ts, rs, ss) = (&pose.translations, &pose.rotations, &pose.scales);
+        for (node, word) in standing.iter().enumerate() {
+            let (t, r, s) = (ts[node], rs[node], ss[node]);
+            let marks = [t.is_some(), r.is_some(), s.is_some()].map(u32::from);
+            self.marks[WORDS * node..][..3].copy_from_slice(&marks);
+            self.marks[WORDS * node + 3] = *word;
+            let floats = &mut self.slots[FLOATS * node..][..FLOATS];
+            floats[..3].copy_from_slice(&t.unwrap_or_default());
+            floats[3..7].copy_from_slice(&r.unwrap_or_default());
+            floats[7..].copy_from_slice(&s.unwrap_or_default());
+        }
+    }
+
+    /// Takes over a node's rotation as far as the rule allows.
+    fn take_rotation(&mut self, node: usize, rule: Rule, port: &Self) {
+        let (mark, at) = (WORDS * node + 1, FLOATS * node + 3);
+        if rule == Rule::NotCompared {
+            self.marks[mark] = port.marks[mark];
+        }
+        let rotation = |answer: &Self| from_fn(|k| answer.slots[at + k]);
+        let (own, ports) = (rotation(self), rotation(port));
+        if rule.allows(&own, &ports) {
+            self.slots[at..][..4].copy_from_slice(&ports);
+        }
+    }
+
+    fn is_same(&self, other: &Self) -> bool {
+        (self.number, &self.marks) == (other.number, &other.marks)
+            && same_bits(&self.slots, &other.slots)
+    }
+
+    fn told(&self) -> String {
+        let (number, marks, slots) = (self.number, &self.marks, bits(&self.slots));
+        format!("({number}, {marks:x?}, {slots:08x?})")
+    }
+}
+
+struct Comparison {
+    tally: Tally<(usize, usize, u32)>,
+    channels: Met<5>,
+    given: Met<5>,
+    turns: Met<3>,
+    rooms: Met<3>,
+    refused: Met<3>,
+}
+
+impl Comparison {
+    fn new() -> Self {
+        Comparison {
+            tally: Tally::new(),
+            channels: Met::new([
+                "aimed past the nodes",
+                "uneven",
+                "of another kind",
+                "rotations without length",
+                "given",
+            ]),
+            given: Met::new([
+                "translations",
+                "rotations",
+                "scales",
+                "weights",
+                "over an earlier channel",
+            ]),
+            turns: Met::new(["straight turns", "turns", "left to the proof"]),
+            rooms: Met::new(["more than the nodes", "short words", "short floats"]),
+            refused: Met::new(["with 3", "with 5", "with 6"]),
+        }
+    }
+
+    fn count_times(&mut self, moved: &Moved, lent: &[Lent], rng: &mut Rng) {
+        for _ in 0..TIMES {
+            let time = moved.time(rng);
+            let marks = self.room(WORDS, moved.nodes, 1, rng);
+            let slots = self.room(FLOATS, moved.nodes, 2, rng);
+            let number = moved.number(time, marks, slots);
+            for lent in lent {
+                let port = Answer::of_port(lent, time, marks, slots);
+                let rust = Answer::refused(number, marks, slots);
+                self.count(moved, time, rust, &port);
+            }
+        }
+    }
+
+    /// With the number and the room that are expected.
+    fn count(&mut self, moved: &Moved, time: f32, mut rust: Answer, port: &Answer) {
+        let names_weights = match rust.number {
+            0 => self.put_pose(&mut rust, moved, time, port),
+            number => {
+                self.refused.count(number as usize / 2 - 1);
+                true
+            }
+        };
+        let channels = &moved.animation.channels;
+        let size = (channels.len(), moved.nodes, time.to_bits());
+        let equal = names_weights && rust.is_same(port);
+        self.tally.count(size, equal, |(_, nodes, time)| {
+            let targets: Vec<_> = channels.iter().map(|channel| channel.target).collect();
+            let tracks: Vec<String> = moved.tracks.iter().map(Track::told).collect();
+            let (rust, port) = (rust.told(), port.told());
+            format!(
+                "{nodes} nodes, {targets:?}, {tracks:?}, time {time:08x}, Rust {rust}, port {port}"
+            )
+        });
+    }
+
+    /// Entries of a slice: mostly for each node and some more.
+    fn room(&mut self, width: usize, nodes: usize, short: usize, rng: &mut Rng) -> usize {
+        let enough = width * nodes;
+        match rng.below(16) {
+            0 if nodes > 0 => {
+                self.rooms.count(short);
+                enough - 1 - rng.below(width as u32) as usize
+            }
+            1..4 => enough,
+            _ => {
+                self.rooms.count(0);
+                enough + 1 + rng.below(2 * width as u32) as usize
+            }
+        }
+    }
+
+    /// The Rust's pose, with what the rules leave to the port; false where the
+    /// port names other weights.
+    fn put_pose(&mut self, rust: &mut Answer, moved: &Moved, time: f32, port: &Answer) -> bool {
+        let pose = moved.animation.sample_pose(time, moved.nodes);
+        let mut standing = vec![0; moved.nodes];
+        let mut rules = vec![Rule::EqualBits; moved.nodes];
+        let mut given = Vec::new();
+        for (k, channel) in (1..).zip(&moved.animation.channels) {
+            let (node, property) = (node_of(channel), channel.target.property);
+            let fate = moved.fate(channel, time);
+            self.channels.count(fate as usize);
+            if property == AnimationProperty::Rotation && fate >= Fate::WithoutLength {
+                let rule = self.rule(&moved.tracks[k as usize - 1], time);
+                if fate == Fate::Given || rule == Rule::NotCompared {
+                    rules[node] = rule;
+                }
+            }
+            if fate == Fate::Given {
+                if property == AnimationProperty::MorphWeights {
+                    standing[node] = k;
+                }
+                self.met_given(channel.target, &mut given);
+            }
+        }
+        rust.put(&pose, &standing);
+        for (node, rule) in rules.into_iter().enumerate() {
+            rust.take_rotation(node, rule, port);
+        }
+        let words = port.marks.iter().skip(3).step_by(WORDS);
+        let mut weights = pose.morph_weights.iter().zip(words);
+        weights.all(|(weights, word)| moved.has_weights(weights, *word, time))
+    }
+
+    fn rule(&mut self, track: &Track, time: f32) -> Rule {
+        let Some(turn) = Turn::of(track, place_of(track.keys(), time)) else {
+            return Rule::EqualBits;
+        };
+        let rule = turn.rule();
+        self.turns.count(rule as usize);
+        rule
+    }
+
+    fn met_given(&mut self, target: AnimationTarget, given: &mut Vec<AnimationTarget>) {
+        self.given.count(target.property as usize);
+        if given.contains(&target) {
+            self.given.count(4);
+        }
+        given.push(target);
+    }
+
+    fn report(&self) -> bool {
+        let note = [
+            self.rooms.note(),
+            String::from("; channels"),
+            self.channels.note(),
+            self.given.note(),
+            self.turns.note(),
+            String::from("; refused"),
+            self.refused.note(),
+        ];
+        let equal = [
+            self.tally.report("sample_pose", "cases", &note.concat()),
+            self.rooms.report(),
+            self.channels.report(),
+            self.given.report(),
+            self.turns.report(),
+            self.refused.report(),
+        ];
+        !equal.contains(&false)
+    }
+}
