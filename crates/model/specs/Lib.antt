@@ -13,9 +13,11 @@ pub mod World
 pub mod Skin
 pub mod Morph
 pub mod Vertices
+pub mod Attributes
 pub mod Limits
 pub mod Refusals
 pub mod Calls
+pub mod SkinCalls
 pub mod Bake
 pub mod Agree
 pub mod Starred
