@@ -22,3 +22,4 @@ pub mod Differences
 pub mod Turns
 pub mod Alike
 pub mod RowLaws
+pub mod Rowwise
