@@ -54,8 +54,8 @@ pub fn pose_number(
     0
 }
 
-// The poses of n nodes, from slots that hold anything.
-fn fill(
+// The poses of n nodes, in slots that hold anything: a stage, for tables and a time that have been checked.
+pub fn pose_all(
     words: &[u32],
     floats: &[f32],
     channels: Part,
@@ -92,7 +92,7 @@ pub fn sample_pose(
         return number;
     }
     let graph = h.graph;
-    fill(
+    pose_all(
         words,
         floats,
         h.channels,

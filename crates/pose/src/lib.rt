@@ -9,8 +9,10 @@ mod overlay;
 mod sampler;
 mod slots;
 
+pub use calls::pose_all;
 pub use calls::pose_number;
 pub use calls::sample_pose;
+pub use lines::keys_out_of_line;
 pub use overlay::local_transform;
 pub use slots::pose_at;
 

@@ -40,8 +40,8 @@ fn some_out_of_line(words: &[u32], floats: &[f32], channels: Part, n: usize) -> 
     false
 }
 
-// Whether an even track that is aimed at a node has keys that are not in line. The tables are ones that draw no number.
-pub(crate) fn keys_out_of_line(words: &[u32], floats: &[f32], h: Header) -> bool
+// Whether an even track that is aimed at a node has keys that are not in line: a stage, for tables that draw no number.
+pub fn keys_out_of_line(words: &[u32], floats: &[f32], h: Header) -> bool
     requires { ⌜ NoneDrawn (now words) (now floats) (h .channels) ⌝ }
     ensures { λ r. ⌜ ((own mesh : List Float) → r ≡ someKeysOutOfLine (sceneOf (lentAs (now (words .entry)) (now (floats .entry)) own mesh h))) ⌝ }
 {

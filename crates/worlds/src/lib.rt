@@ -13,6 +13,8 @@ mod numbers;
 mod posing;
 mod slots;
 
+pub use numbers::is_short;
+
 // A refusal number, or 0, and how many entries were taken.
 #[repr(C)]
 pub struct Answer {
@@ -20,8 +22,8 @@ pub struct Answer {
     pub taken: usize,
 }
 
-// Places the nodes, and writes the world of each.
-fn place_all(
+// Places the nodes, and writes the world of each: a stage, for tables and room that have been checked.
+pub fn place_all(
     words: &[u32],
     floats: &[f32],
     graph: Graph,

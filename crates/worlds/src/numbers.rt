@@ -7,8 +7,8 @@ ghost use Rattle.tables.specs.Decoded.{sceneOf};
 ghost use Rattle.checks.specs.Drawn.{lentAs, tablesNumber};
 ghost use Rattle.worlds.specs.Rooms.{shortIn};
 
-// Whether the walk room or the slots are too few.
-fn is_short(words: &[u32], graph: Graph, walk: usize, poses: usize, worlds: usize) -> bool
+// Whether the walk room or the slots are too few: a stage, for tables that draw no number.
+pub fn is_short(words: &[u32], graph: Graph, walk: usize, poses: usize, worlds: usize) -> bool
     requires { ⌜ graph .roots .count ≤ 1024 ⌝ }
     ensures { λ r. ⌜ r ≡ shortIn (now (words .entry)) graph walk poses worlds ⌝ }
 {

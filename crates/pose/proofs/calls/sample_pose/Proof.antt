@@ -18,8 +18,8 @@ returns c =
     let e = p .pose-number .ensures ∙ ap (poseNumber (tablesNumber l) (sceneOf l) (a .time)) (q .slots-in .ensures) in
     refused l (a .time) (now (a .marks)) (now (a .slots)) _ e (c .if1 .taken)
 
-fill-requires : tie.Need-fill-requires
-fill-requires c κs =
+pose-all-requires : tie.Need-pose-all-requires
+pose-all-requires c κs =
     let d = c .before .before .before in
     let p = d .before in
     let q = p .before in
@@ -38,7 +38,7 @@ returns-2 c =
     let a = q .before .before .before .before .before .before .before .args in
     let l = lentAs (now (a .words)) (now (a .floats)) (now (a .node-weights)) (now (a .mesh-weights)) (a .h) in
     let e = p .pose-number .ensures ∙ ap (poseNumber (tablesNumber l) (sceneOf l) (a .time)) (q .slots-in .ensures) in
-    posed l (a .time) (now (a .marks)) (now (a .slots)) _ e (d .if1 .left) _ _ (f .fill .ensures .0) (f .fill .ensures .1)
+    posed l (a .time) (now (a .marks)) (now (a .slots)) _ e (d .if1 .left) _ _ (f .pose-all .ensures .0) (f .pose-all .ensures .1)
 
 pub sample-pose-spec : {M : Type 1} → statement M
 sample-pose-spec =
@@ -47,7 +47,7 @@ sample-pose-spec =
     (λ c κs. search needs)
     (λ c κs. search needs)
     returns
-    fill-requires
+    pose-all-requires
     (λ c. search needs)
     (λ c. search needs)
     returns-2)

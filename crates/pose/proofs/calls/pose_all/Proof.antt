@@ -1,4 +1,4 @@
--- `pose::calls::fill` meets its contract. Assumes nothing.
+-- `pose::calls::pose_all` meets its contract. Assumes nothing.
 use mathlib.Core.Path.{_∙_}
 use native.Mathlib.Omega.{arith}
 use borrow.Author.Needs.{needs}
@@ -7,8 +7,8 @@ use Rattle.model.specs.Lists.{tabulate}
 use Rattle.tables.specs.Records.{channelRow}
 use Rattle.pose.specs.Lines.{channelIn}
 use Rattle.pose.proofs.ClearLaws.{cleared-words, cleared-floats, over-words, over-floats}
-use Rattle.pose.proofs.calls.fill.Statement.{statement}
-use Rattle.pose.proofs.calls.fill.Tie as tie
+use Rattle.pose.proofs.calls.pose_all.Statement.{statement}
+use Rattle.pose.proofs.calls.pose_all.Tie as tie
 
 drive-all-requires : tie.Need-drive-all-requires
 drive-all-requires c κs =
@@ -28,8 +28,8 @@ returns c =
       v .drive-all .ensures .1 ∙ over-floats (a .time) (a .n) ts (now (a .slots)) _ (d .clear .ensures .1),
     )
 
-pub fill-spec : {M : Type 1} → statement M
-fill-spec =
+pub pose-all-spec : {M : Type 1} → statement M
+pose-all-spec =
     tie.close
     (tie.spec
     (λ c κs. search needs)
