@@ -46,14 +46,14 @@ no-either : (p q : Bool) → (p || q) ≡ false → (p ≡ false) × (q ≡ fals
 no-either true q h = absurd (true≢false h)
 no-either false q h = (refl, h)
 
-enough : (s : Scene) (r : Scratch) → scratchIsShort s r ≡ false → (length (s .roots) + childEntries s ≤ r .walkRoom) × (nodeCount s ≤ r .poseSlots) × (nodeCount s ≤ r .worldSlots)
+pub enough : (s : Scene) (r : Scratch) → scratchIsShort s r ≡ false → (length (s .roots) + childEntries s ≤ r .walkRoom) × (nodeCount s ≤ r .poseSlots) × (nodeCount s ≤ r .worldSlots)
 enough s r h =
     let a = no-either (ltb (r .walkRoom) (length (s .roots) + childEntries s) || ltb (r .poseSlots) (nodeCount s)) (ltb (r .worldSlots) (nodeCount s)) h in
     let b = no-either (ltb (r .walkRoom) (length (s .roots) + childEntries s)) (ltb (r .poseSlots) (nodeCount s)) (a .0) in
     (ltb-false _ _ (b .0), ltb-false _ _ (b .1), ltb-false _ _ (a .1))
 
 -- ---- local matrices
-worlds-alike : (f g : ℕ → Matrix) (es : List Entry) (ws : List (Option Matrix)) → ((e : Entry) → List·Memᴰ e es → f (e .node) ≡ g (e .node)) → worldsFrom f ws es ≡ worldsFrom g ws es
+pub worlds-alike : (f g : ℕ → Matrix) (es : List Entry) (ws : List (Option Matrix)) → ((e : Entry) → List·Memᴰ e es → f (e .node) ≡ g (e .node)) → worldsFrom f ws es ≡ worldsFrom g ws es
 unfolding foldl
 worlds-alike f g [] ws h = refl
 worlds-alike f g (e ∷ es) ws h =

@@ -41,7 +41,7 @@ unfolding foldl
 places-kept ps [] = refl
 places-kept ps (e ∷ es) = places-kept (set ps (e .node) (e .place)) es ∙ length-set ps (e .node) (e .place)
 
-places-length : (s : Scene) → length (places s) ≡ nodeCount s
+pub places-length : (s : Scene) → length (places s) ≡ nodeCount s
 places-length s = places-kept (start s) (order s) ∙ length-replicate (nodeCount s) unplaced
 
 -- ---- codes and order that a run leaves

@@ -2,3 +2,4 @@ pub mod Stepping
 pub mod Answering
 pub mod Filled
 pub mod Delivering
+pub mod Reading

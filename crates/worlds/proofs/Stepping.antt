@@ -37,11 +37,11 @@ getD-map f (y ∷ l) zero d e h = refl
 getD-map f (y ∷ l) (suc i) d e h = getD-map f l i d e (omega arith)
 
 -- ---- slots of sixteen numbers
-product-length : (a b : Matrix) → length (mul a b) ≡ 16
+pub product-length : (a b : Matrix) → length (mul a b) ≡ 16
 unfolding mul
 product-length a b = length-tabulate 16 _
 
-rows-set : (ws : List (Option Matrix)) (i : ℕ) (m : Matrix) → length m ≡ 16 → Rows 16 (map slotOf ws) → Rows 16 (map slotOf (set ws i (some m)))
+pub rows-set : (ws : List (Option Matrix)) (i : ℕ) (m : Matrix) → length m ≡ 16 → Rows 16 (map slotOf ws) → Rows 16 (map slotOf (set ws i (some m)))
 rows-set [] i m e h = tt
 rows-set (w ∷ ws) zero m e h = (e, h .1)
 rows-set (w ∷ ws) (suc i) m e h = (h .0, rows-set ws i m e (h .1))
