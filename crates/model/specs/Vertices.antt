@@ -60,7 +60,7 @@ pub record Influence : Type 0 where
   pub matrix : Matrix
 
 -- an influence counts if it is finite, above 0, and of a joint in the palette
-abbrev counted : Option Matrix → Float → List Influence → List Influence
+abbrev pub counted : Option Matrix → Float → List Influence → List Influence
 counted none w rest = rest
 counted (some m) w rest = pick (finite w && lt zero32 w) (record { weight = w; matrix = m } ∷ rest) rest
 
@@ -79,7 +79,7 @@ mixture (i ∷ is) = some (foldl (λ (m : Matrix) (i : Influence). m ⊞ i .weig
 abbrev pub jointMatrix : List Matrix → List (List ℕ) → List Vector → ℕ → Option Matrix
 jointMatrix palette joints weights v = andThen (getElem? joints v) (λ js. andThen (getElem? weights v) (λ ws. mixture (influences palette js ws)))
 
-abbrev byMatrix : (Matrix → Vector → Vector) → Option Matrix → Vector → Vector
+abbrev pub byMatrix : (Matrix → Vector → Vector) → Option Matrix → Vector → Vector
 byMatrix f none x = x
 byMatrix f (some m) x = f m x
 

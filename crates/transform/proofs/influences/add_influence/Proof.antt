@@ -1,0 +1,47 @@
+-- `transform::influences::add_influence` meets its contract. Assumes nothing.
+use mathlib.Core.Path.{refl, sym, _∙_}
+use native.Mathlib.Omega.{arith}
+use denote.Ref.{now}
+use Rattle.transform.proofs.Blended.{counts-in, past-palette, no-weight}
+use borrow.Author.Needs.{needs}
+use Rattle.transform.proofs.influences.add_influence.Statement.{statement}
+use Rattle.transform.proofs.influences.add_influence.Tie as tie
+
+counts-requires : tie.Need-counts-requires
+counts-requires c κs = search needs
+
+mul-load : tie.Need-mul-load
+mul-load c = search needs
+
+load-requires : tie.Need-load-requires
+load-requires c κs = search needs
+
+mat4-madd-requires : tie.Need-mat4-madd-requires
+mat4-madd-requires c κs = search needs
+
+returns : tie.Need-returns
+returns c =
+    let a = c .before .before .before .before .before .before .args in
+    counts-in (now (a .palette)) (a .j) (a .w) (a .b) _ _ (omega arith) (sym (c .before .before .before .counts .ensures) ∙ c .before .before .if2 .taken) (c .before .load .ensures) refl (c .mat4-madd .ensures)
+
+returns-2 : tie.Need-returns-2
+returns-2 c =
+    let a = c .before .before .before .before .args in
+    no-weight (now (a .palette)) (a .j) (a .w) (a .b) (omega arith) (sym (c .before .counts .ensures) ∙ c .if2 .left)
+
+returns-3 : tie.Need-returns-3
+returns-3 c =
+    let a = c .before .before .args in
+    past-palette (now (a .palette)) (a .j) (a .w) (a .b) (omega arith)
+
+pub add-influence-spec : {M : Type 1} → statement M
+add-influence-spec =
+    tie.close
+    (tie.spec
+    counts-requires
+    mul-load
+    load-requires
+    mat4-madd-requires
+    returns
+    returns-2
+    returns-3)

@@ -1,0 +1,37 @@
+-- Rows of a slice that are changed one by one, and tangents. Definitions only.
+use mathlib.Core.Path.{_≡_}
+use mathlib.Core.List.{List, [], _∷_, _++_, map}
+use mathlib.Core.Bool.{Bool}
+use Prim.Native.Nat.{ℕ, zero, suc, _*_, _/_}
+use lib.Dec.{ltb}
+use lib.Ieee.{Float, neg}
+use lib.ListN.{length, take}
+use lib.Seq.{paste}
+use Rattle.model.specs.Lists.{pick, row, rowsIn}
+use Rattle.model.specs.Vector.{Vector, at}
+use Rattle.model.specs.Matrix.{Matrix}
+use Rattle.model.specs.Inverse.{normalMatrix}
+use Rattle.model.specs.Vertices.{turnedUnit, turnedNormal, turnedTangent}
+use Rattle.model.specs.Attributes.{overRows}
+use Rattle.transform.specs.declared.rows.Tangent.{Tangent}
+
+abbrev pub tangent : Tangent → Vector
+tangent t = t .direction .x ∷ t .direction .y ∷ t .direction .z ∷ t .handedness ∷ []
+
+-- x, y and z of a tangent by a linear part, which may mirror
+unfoldable pub tangentBy : List Float → Bool → Vector → Vector
+tangentBy l mirror v = turnedUnit l (take 3 v) ++ (pick mirror (neg (at v 3)) (at v 3) ∷ [])
+
+-- a slice with row k changed, if it has that row
+unfoldable pub rowChanged : ℕ → (Vector → Vector) → ℕ → List Float → List Float
+rowChanged w f k l = pick (ltb k (length l / w)) (paste l (k * w) (f (row w l k)) w) l
+
+-- a slice with the first n rows changed, one after the other
+unfoldable pub firstRows : ℕ → (ℕ → Vector → Vector) → List Float → ℕ → List Float
+firstRows w f l zero = l
+firstRows w f l (suc k) = rowChanged w (f k) k (firstRows w f l k)
+
+-- normals and tangents after all are turned by a matrix
+pub record TurnedAll (m : Matrix) (lentNormals leftNormals lentTangents leftTangents : List Float) : Type 0 where
+  pub normals : leftNormals ≡ overRows 3 (map (turnedNormal (normalMatrix m)) (rowsIn 3 lentNormals)) lentNormals
+  pub tangents : leftTangents ≡ overRows 4 (map (turnedTangent m) (rowsIn 4 lentTangents)) lentTangents

@@ -1,0 +1,76 @@
+use crate::directions::turn_normal;
+use crate::directions::turn_tangent;
+use crate::rows::load3;
+use crate::rows::store3;
+use scene::Linear;
+use scene::Mat3;
+use scene::Mat4;
+ghost use mathlib.Core.Path.{_≡_};
+ghost use mathlib.Core.List.{map};
+ghost use Rattle.model.specs.Lists.{rowsIn};
+ghost use Rattle.model.specs.Inverse.{normalMatrix};
+ghost use Rattle.model.specs.Vertices.{transformedPoint, turnedNormal, turnedTangent, transformed};
+ghost use Rattle.model.specs.Attributes.{attributesIn, overRows, Reshaped};
+ghost use Rattle.scene.specs.Values.{mat3, linearOf};
+ghost use Rattle.transform.specs.Rows.{tangentBy, rowChanged, TurnedAll};
+
+// Moves position k, if there is one.
+fn transform_position(m: Mat4, positions: &mut [f32], k: usize)
+    ensures { λ _. ⌜ now (positions .exit) ≡ rowChanged 3 (transformedPoint (m .m)) k (now (positions .entry)) ⌝ }
+{
+    if k < positions.len() / 3 {
+        let p = load3(positions, k * 3);
+        store3(positions, k * 3, scene::transform_point(m, p));
+    }
+}
+
+fn transform_positions(m: Mat4, positions: &mut [f32])
+    ensures { λ _. ⌜ now (positions .exit) ≡ overRows 3 (map (transformedPoint (m .m)) (rowsIn 3 (now (positions .entry)))) (now (positions .entry)) ⌝ }
+{
+    let n = positions.len() / 3;
+    let mut k = 0usize;
+    while k < n {
+        transform_position(m, positions, k);
+        k += 1;
+    }
+}
+
+// Turns all normals by the normal matrix l.
+fn transform_normals(l: Linear, normals: &mut [f32])
+    ensures { λ _. ⌜ now (normals .exit) ≡ overRows 3 (map (turnedNormal (linearOf l)) (rowsIn 3 (now (normals .entry)))) (now (normals .entry)) ⌝ }
+{
+    let n = normals.len() / 3;
+    let mut k = 0usize;
+    while k < n {
+        turn_normal(l, normals, k);
+        k += 1;
+    }
+}
+
+// Turns all tangents by the linear part l.
+fn transform_tangents(l: Mat3, mirror: bool, tangents: &mut [f32])
+    ensures { λ _. ⌜ now (tangents .exit) ≡ overRows 4 (map (tangentBy (mat3 l) mirror) (rowsIn 4 (now (tangents .entry)))) (now (tangents .entry)) ⌝ }
+{
+    let n = tangents.len() / 4;
+    let mut k = 0usize;
+    while k < n {
+        turn_tangent(l, mirror, tangents, k);
+        k += 1;
+    }
+}
+
+fn transform_directions(m: Mat4, normals: &mut [f32], tangents: &mut [f32])
+    ensures { λ _. ⌜ TurnedAll (m .m) (now (normals .entry)) (now (normals .exit)) (now (tangents .entry)) (now (tangents .exit)) ⌝ }
+{
+    transform_normals(scene::normal_matrix(m), normals);
+    transform_tangents(scene::linear_part(m), scene::linear_det(m) < 0.0, tangents);
+}
+
+// Moves all vertices by m: positions with the perspective division, normals by the normal matrix, tangents by the linear
+// part. An attribute that is absent has an empty slice.
+pub fn transformed(m: Mat4, positions: &mut [f32], normals: &mut [f32], tangents: &mut [f32])
+    ensures { λ _. ⌜ Reshaped (transformed (m .m) (attributesIn (now (positions .entry)) (now (normals .entry)) (now (tangents .entry)))) (now (positions .entry)) (now (positions .exit)) (now (normals .entry)) (now (normals .exit)) (now (tangents .entry)) (now (tangents .exit)) ⌝ }
+{
+    transform_positions(m, positions);
+    transform_directions(m, normals, tangents);
+}
