@@ -20,6 +20,10 @@ use Rattle.tables.specs.declared.SkeletonRow.{SkeletonRow}
 unfoldable pub wordOf : List ℕ → Part → ℕ → ℕ → ℕ → ℕ
 wordOf words t stride i k = getD words (t .at + i * stride + k) 0
 
+-- the table of a record that stands alone
+abbrev pub alone : Part
+alone = record { at = 0; count = 1 }
+
 abbrev pub partOf : List ℕ → Part → ℕ → ℕ → ℕ → Part
 partOf words t stride i k = record { at = wordOf words t stride i k; count = wordOf words t stride i (k + 1) }
 

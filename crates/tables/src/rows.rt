@@ -11,12 +11,37 @@ use crate::TargetRow;
 use animation::Part;
 ghost use mathlib.Core.Path.{_≡_};
 ghost use Prim.Native.Nat.{_+_, _*_, _<_};
-ghost use Rattle.tables.specs.Records.{wordOf, partOf, slotOf, referenceOf, nodeRow, channelRow, meshRow, primitiveRow, targetRow, inBetweenRow, skinRow, skeletonRow};
+ghost use lib.ListN.{length, take, drop};
+ghost use Rattle.tables.specs.Records.{alone, wordOf, partOf, slotOf, referenceOf, nodeRow, channelRow, meshRow, primitiveRow, targetRow, inBetweenRow, skinRow, skeletonRow};
 
 fn wide(x: u32) -> usize
     ensures { λ r. ⌜ r ≡ x ⌝ }
 {
     x as usize
+}
+
+// The words of record i, where it lies whole in `words`; otherwise none.
+fn whole(words: &[u32], t: Part, stride: usize, i: usize) -> &[u32]
+    requires { ⌜ 0 < stride ⌝ }
+    ensures { λ r. ⌜ (length (now r) ≡ stride → now r ≡ take stride (drop (t .at + i * stride) (now (words .entry)))) ⌝ }
+{
+    let at = t.at;
+    let len = words.len();
+    if at <= len {
+        if i < (len - at) / stride {
+            let start = at + i * stride;
+            let end = start + stride;
+            return &words[start..end];
+        }
+    }
+    &words[..0]
+}
+
+// The table of a record that stands alone.
+fn alone() -> Part
+    ensures { λ r. ⌜ r ≡ alone ⌝ }
+{
+    Part { at: 0, count: 1 }
 }
 
 // Word k of record i in a table of records of so many words; 0 where `words` has none.
@@ -67,8 +92,7 @@ fn reference(words: &[u32], t: Part, stride: usize, i: usize, k: usize) -> Refer
     }
 }
 
-// Record i of the nodes.
-pub fn node_row(words: &[u32], t: Part, i: usize) -> NodeRow
+fn node_in(words: &[u32], t: Part, i: usize) -> NodeRow
     ensures { λ r. ⌜ r ≡ nodeRow (now (words .entry)) t i ⌝ }
 {
     NodeRow {
@@ -81,8 +105,18 @@ pub fn node_row(words: &[u32], t: Part, i: usize) -> NodeRow
     }
 }
 
-// Record i of the channels.
-pub fn channel_row(words: &[u32], t: Part, i: usize) -> ChannelRow
+// Record i of the nodes.
+pub fn node_row(words: &[u32], t: Part, i: usize) -> NodeRow
+    ensures { λ r. ⌜ r ≡ nodeRow (now (words .entry)) t i ⌝ }
+{
+    let row = whole(words, t, 16, i);
+    if row.len() == 16 {
+        return node_in(row, alone(), 0);
+    }
+    node_in(words, t, i)
+}
+
+fn channel_in(words: &[u32], t: Part, i: usize) -> ChannelRow
     ensures { λ r. ⌜ r ≡ channelRow (now (words .entry)) t i ⌝ }
 {
     ChannelRow {
@@ -95,8 +129,18 @@ pub fn channel_row(words: &[u32], t: Part, i: usize) -> ChannelRow
     }
 }
 
-// Record i of the meshes.
-pub fn mesh_row(words: &[u32], t: Part, i: usize) -> MeshRow
+// Record i of the channels.
+pub fn channel_row(words: &[u32], t: Part, i: usize) -> ChannelRow
+    ensures { λ r. ⌜ r ≡ channelRow (now (words .entry)) t i ⌝ }
+{
+    let row = whole(words, t, 8, i);
+    if row.len() == 8 {
+        return channel_in(row, alone(), 0);
+    }
+    channel_in(words, t, i)
+}
+
+fn mesh_in(words: &[u32], t: Part, i: usize) -> MeshRow
     ensures { λ r. ⌜ r ≡ meshRow (now (words .entry)) t i ⌝ }
 {
     MeshRow {
@@ -105,8 +149,18 @@ pub fn mesh_row(words: &[u32], t: Part, i: usize) -> MeshRow
     }
 }
 
-// Record i of the primitives.
-pub fn primitive_row(words: &[u32], t: Part, i: usize) -> PrimitiveRow
+// Record i of the meshes.
+pub fn mesh_row(words: &[u32], t: Part, i: usize) -> MeshRow
+    ensures { λ r. ⌜ r ≡ meshRow (now (words .entry)) t i ⌝ }
+{
+    let row = whole(words, t, 4, i);
+    if row.len() == 4 {
+        return mesh_in(row, alone(), 0);
+    }
+    mesh_in(words, t, i)
+}
+
+fn primitive_in(words: &[u32], t: Part, i: usize) -> PrimitiveRow
     ensures { λ r. ⌜ r ≡ primitiveRow (now (words .entry)) t i ⌝ }
 {
     PrimitiveRow {
@@ -119,8 +173,18 @@ pub fn primitive_row(words: &[u32], t: Part, i: usize) -> PrimitiveRow
     }
 }
 
-// Record i of the morph targets.
-pub fn target_row(words: &[u32], t: Part, i: usize) -> TargetRow
+// Record i of the primitives.
+pub fn primitive_row(words: &[u32], t: Part, i: usize) -> PrimitiveRow
+    ensures { λ r. ⌜ r ≡ primitiveRow (now (words .entry)) t i ⌝ }
+{
+    let row = whole(words, t, 16, i);
+    if row.len() == 16 {
+        return primitive_in(row, alone(), 0);
+    }
+    primitive_in(words, t, i)
+}
+
+fn target_in(words: &[u32], t: Part, i: usize) -> TargetRow
     ensures { λ r. ⌜ r ≡ targetRow (now (words .entry)) t i ⌝ }
 {
     TargetRow {
@@ -131,8 +195,18 @@ pub fn target_row(words: &[u32], t: Part, i: usize) -> TargetRow
     }
 }
 
-// Record i of the in-betweens.
-pub fn in_between_row(words: &[u32], t: Part, i: usize) -> InBetweenRow
+// Record i of the morph targets.
+pub fn target_row(words: &[u32], t: Part, i: usize) -> TargetRow
+    ensures { λ r. ⌜ r ≡ targetRow (now (words .entry)) t i ⌝ }
+{
+    let row = whole(words, t, 12, i);
+    if row.len() == 12 {
+        return target_in(row, alone(), 0);
+    }
+    target_in(words, t, i)
+}
+
+fn in_between_in(words: &[u32], t: Part, i: usize) -> InBetweenRow
     ensures { λ r. ⌜ r ≡ inBetweenRow (now (words .entry)) t i ⌝ }
 {
     InBetweenRow {
@@ -142,8 +216,18 @@ pub fn in_between_row(words: &[u32], t: Part, i: usize) -> InBetweenRow
     }
 }
 
-// Record i of the skins.
-pub fn skin_row(words: &[u32], t: Part, i: usize) -> SkinRow
+// Record i of the in-betweens.
+pub fn in_between_row(words: &[u32], t: Part, i: usize) -> InBetweenRow
+    ensures { λ r. ⌜ r ≡ inBetweenRow (now (words .entry)) t i ⌝ }
+{
+    let row = whole(words, t, 8, i);
+    if row.len() == 8 {
+        return in_between_in(row, alone(), 0);
+    }
+    in_between_in(words, t, i)
+}
+
+fn skin_in(words: &[u32], t: Part, i: usize) -> SkinRow
     ensures { λ r. ⌜ r ≡ skinRow (now (words .entry)) t i ⌝ }
 {
     SkinRow {
@@ -152,12 +236,33 @@ pub fn skin_row(words: &[u32], t: Part, i: usize) -> SkinRow
     }
 }
 
-// Record i of the skeletons.
-pub fn skeleton_row(words: &[u32], t: Part, i: usize) -> SkeletonRow
+// Record i of the skins.
+pub fn skin_row(words: &[u32], t: Part, i: usize) -> SkinRow
+    ensures { λ r. ⌜ r ≡ skinRow (now (words .entry)) t i ⌝ }
+{
+    let row = whole(words, t, 4, i);
+    if row.len() == 4 {
+        return skin_in(row, alone(), 0);
+    }
+    skin_in(words, t, i)
+}
+
+fn skeleton_in(words: &[u32], t: Part, i: usize) -> SkeletonRow
     ensures { λ r. ⌜ r ≡ skeletonRow (now (words .entry)) t i ⌝ }
 {
     SkeletonRow {
         joints: part(words, t, 4, i, 0),
         inverse_binds: part(words, t, 4, i, 2),
     }
+}
+
+// Record i of the skeletons.
+pub fn skeleton_row(words: &[u32], t: Part, i: usize) -> SkeletonRow
+    ensures { λ r. ⌜ r ≡ skeletonRow (now (words .entry)) t i ⌝ }
+{
+    let row = whole(words, t, 4, i);
+    if row.len() == 4 {
+        return skeleton_in(row, alone(), 0);
+    }
+    skeleton_in(words, t, i)
 }

@@ -1,17 +1,20 @@
 -- `tables::rows::primitive_row` meets its contract. Assumes nothing.
+use mathlib.Core.Path.{_∙_}
 use borrow.Author.Needs.{needs}
+use denote.Ref.{now}
+use Rattle.tables.specs.Records.{primitiveRow}
+use Rattle.tables.proofs.WholeRecords.{same-primitive}
 use Rattle.tables.proofs.rows.primitive_row.Statement.{statement}
 use Rattle.tables.proofs.rows.primitive_row.Tie as tie
 
 returns : tie.Need-returns
-returns c = λ j. record {
-  positions = (c .before .before .before .before .before .part .ensures) j;
-  normals = (c .before .before .before .before .slot .ensures) j;
-  tangents = (c .before .before .before .slot2 .ensures) j;
-  joints = (c .before .before .slot3 .ensures) j;
-  weights = (c .before .slot4 .ensures) j;
-  targets = (c .part2 .ensures) j;
-}
+returns c =
+    let s = c .before .before in
+    c .primitive-in .ensures ∙ (λ j. primitiveRow (now (s .before .whole .result)) (c .before .alone .ensures j) 0)
+    ∙ same-primitive _ _ _ _ (s .before .whole .ensures (s .if1 .taken))
+
+returns-2 : tie.Need-returns-2
+returns-2 c = c .primitive-in2 .ensures
 
 pub primitive-row-spec : {M : Type 1} → statement M
-primitive-row-spec = tie.close (tie.spec (λ c κs. search needs) (λ c κs. search needs) (λ c κs. search needs) (λ c κs. search needs) (λ c κs. search needs) (λ c κs. search needs) returns)
+primitive-row-spec = tie.close (tie.spec (λ c κs. search needs) (λ c κs. search needs) (λ c κs. search needs) returns (λ c κs. search needs) returns-2)

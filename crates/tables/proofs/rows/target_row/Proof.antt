@@ -1,15 +1,20 @@
 -- `tables::rows::target_row` meets its contract. Assumes nothing.
+use mathlib.Core.Path.{_∙_}
 use borrow.Author.Needs.{needs}
+use denote.Ref.{now}
+use Rattle.tables.specs.Records.{targetRow}
+use Rattle.tables.proofs.WholeRecords.{same-target}
 use Rattle.tables.proofs.rows.target_row.Statement.{statement}
 use Rattle.tables.proofs.rows.target_row.Tie as tie
 
 returns : tie.Need-returns
-returns c = λ j. record {
-  positions = (c .before .before .before .slot .ensures) j;
-  normals = (c .before .before .slot2 .ensures) j;
-  tangents = (c .before .slot3 .ensures) j;
-  «in_betweens» = (c .part .ensures) j;
-}
+returns c =
+    let s = c .before .before in
+    c .target-in .ensures ∙ (λ j. targetRow (now (s .before .whole .result)) (c .before .alone .ensures j) 0)
+    ∙ same-target _ _ _ _ (s .before .whole .ensures (s .if1 .taken))
+
+returns-2 : tie.Need-returns-2
+returns-2 c = c .target-in2 .ensures
 
 pub target-row-spec : {M : Type 1} → statement M
-target-row-spec = tie.close (tie.spec (λ c κs. search needs) (λ c κs. search needs) (λ c κs. search needs) (λ c κs. search needs) returns)
+target-row-spec = tie.close (tie.spec (λ c κs. search needs) (λ c κs. search needs) (λ c κs. search needs) returns (λ c κs. search needs) returns-2)
