@@ -1,4 +1,4 @@
--- Floats in lists of bytes: four bytes each, little-endian. Definitions only.
+-- Words and floats in lists of bytes: four bytes each, little-endian. Definitions only.
 use mathlib.Core.Path.{_≡_}
 use mathlib.Core.List.{List, [], _∷_, _++_}
 use Prim.Native.Nat.{ℕ, _+_, _*_, _/_, _%_, min}
@@ -10,19 +10,36 @@ use Rattle.model.specs.Lists.{tabulate}
 abbrev pub wordAt : List ℕ → ℕ → ℕ
 wordAt s i = getD s i 0 + getD s (i + 1) 0 * 256 + getD s (i + 2) 0 * 65536 + getD s (i + 3) 0 * 16777216
 
--- the floats; every NaN pattern is the one nan, and bytes past the last whole float are not counted
-unfoldable pub floatsIn : List ℕ → List Float
-floatsIn s = tabulate (length s / 4) (λ i. ofBits binary32 (wordAt s (i * 4)))
+-- what each four bytes stand for; bytes past the last whole word are not counted
+unfoldable pub readAs : {A : Type 0} → (ℕ → A) → List ℕ → List A
+readAs f s = tabulate (length s / 4) (λ i. f (wordAt s (i * 4)))
+
+abbrev pub wordsIn : List ℕ → List ℕ
+wordsIn s = readAs (λ w. w) s
+
+-- every NaN pattern is the one nan
+abbrev pub floatsIn : List ℕ → List Float
+floatsIn s = readAs (ofBits binary32) s
 
 abbrev pub wordBytes : ℕ → List ℕ
 wordBytes w = w % 256 ∷ w / 256 % 256 ∷ w / 65536 % 256 ∷ w / 16777216 % 256 ∷ []
 
--- the bytes of floats; nan as 7fc00000
-unfoldable pub bytesOf : List Float → List ℕ
-bytesOf [] = []
-bytesOf (x ∷ xs) = wordBytes (toBits binary32 x) ++ bytesOf xs
+-- the bytes of entries that are written as words
+unfoldable pub writtenAs : {A : Type 0} → (A → ℕ) → List A → List ℕ
+writtenAs g [] = []
+writtenAs g (x ∷ xs) = wordBytes (g x) ++ writtenAs g xs
 
--- as many floats as there is room for, which the answer counts; past these the bytes are as lent
-pub record WroteBytes (floats : List Float) (lent left : List ℕ) (count : ℕ) : Type 0 where
-  pub counted : count ≡ min (length floats) (length lent / 4)
-  pub bytes : left ≡ bytesOf (take count floats) ++ drop (4 * count) lent
+abbrev pub bytesOfWords : List ℕ → List ℕ
+bytesOfWords words = writtenAs (λ w. w) words
+
+-- nan as 7fc00000
+abbrev pub bytesOf : List Float → List ℕ
+bytesOf floats = writtenAs (toBits binary32) floats
+
+-- as many entries as there is room for, which the answer counts; past these the bytes are as lent
+pub record WroteAs {A : Type 0} (g : A → ℕ) (entries : List A) (lent left : List ℕ) (count : ℕ) : Type 0 where
+  pub counted : count ≡ min (length entries) (length lent / 4)
+  pub bytes : left ≡ writtenAs g (take count entries) ++ drop (4 * count) lent
+
+abbrev pub WroteBytes : List Float → List ℕ → List ℕ → ℕ → Type 0
+WroteBytes floats lent left count = WroteAs (toBits binary32) floats lent left count

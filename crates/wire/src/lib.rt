@@ -1,10 +1,10 @@
-// Little-endian floats in byte slices. Every NaN pattern is read as the one NaN, which is written 7fc00000.
+// Little-endian words and floats in byte slices. Every NaN pattern is read as the one NaN, which is written 7fc00000.
 ghost use mathlib.Core.Path.{_≡_};
 ghost use mathlib.Core.List.{_++_};
 ghost use Prim.Native.Nat.{_+_, _≤_, _<_, min};
 ghost use lib.ListN.{length, take, drop};
 ghost use Rattle.model.specs.Written.{Wrote};
-ghost use Rattle.wire.specs.Bytes.{wordAt, floatsIn, wordBytes, WroteBytes};
+ghost use Rattle.wire.specs.Bytes.{wordAt, wordsIn, floatsIn, wordBytes, WroteAs, WroteBytes};
 
 pub fn least(a: usize, b: usize) -> usize
     ensures { λ r. ⌜ r ≡ min a b ⌝ }
@@ -41,6 +41,19 @@ fn put_word(bytes: &mut [u8], i: usize, w: u32)
     bytes[i + 3] = (w / 16777216 % 256) as u8;
 }
 
+// Reads as many words as there are and `words` has room for, and answers how many. Past these `words` stays as lent.
+pub fn read_words(bytes: &[u8], words: &mut [u32]) -> usize
+    ensures { λ r. ⌜ Wrote (wordsIn (now (bytes .entry))) (now (words .entry)) (now (words .exit)) r ⌝ }
+{
+    let n = least(bytes.len() / 4, words.len());
+    let mut i = 0;
+    while i < n {
+        words[i] = word_at(bytes, i * 4);
+        i += 1;
+    }
+    n
+}
+
 // Reads as many floats as there are and `floats` has room for, and answers how many. Past these `floats` stays as lent.
 pub fn read_floats(bytes: &[u8], floats: &mut [f32]) -> usize
     ensures { λ r. ⌜ Wrote (floatsIn (now (bytes .entry))) (now (floats .entry)) (now (floats .exit)) r ⌝ }
@@ -49,6 +62,19 @@ pub fn read_floats(bytes: &[u8], floats: &mut [f32]) -> usize
     let mut i = 0;
     while i < n {
         floats[i] = float::from_bits(word_at(bytes, i * 4));
+        i += 1;
+    }
+    n
+}
+
+// Writes as many words as there are and `bytes` has room for, and answers how many. Past these `bytes` stays as lent.
+pub fn write_words(words: &[u32], bytes: &mut [u8]) -> usize
+    ensures { λ r. ⌜ WroteAs (λ w. w) (now (words .entry)) (now (bytes .entry)) (now (bytes .exit)) r ⌝ }
+{
+    let n = least(words.len(), bytes.len() / 4);
+    let mut i = 0;
+    while i < n {
+        put_word(bytes, i * 4, words[i]);
         i += 1;
     }
     n

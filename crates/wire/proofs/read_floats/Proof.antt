@@ -1,9 +1,11 @@
 -- `wire::read_floats` meets its contract. Assumes nothing.
+use mathlib.Core.Path.{ap, _∙_}
 use Prim.Native.Nat.{_-_}
 use borrow.Author.Needs.{needs}
+use lib.Ieee.{binary32, ofBits}
 use Rattle.model.proofs.Filling.{Filled, same-length, inside, done}
 use Rattle.wire.specs.Bytes.{floatsIn}
-use Rattle.wire.proofs.Reading.{start-floats, inside-bytes, step-floats}
+use Rattle.wire.proofs.Reading.{start-entries, inside-bytes, step-entries}
 use Rattle.wire.proofs.read_floats.Statement.{statement}
 use Rattle.wire.proofs.read_floats.Tie as tie
 
@@ -14,10 +16,10 @@ abbrev μ-loop : tie.MeasureT-loop
 μ-loop bytes floats₀ n i₀ floats i = n - i
 
 loop-holds : tie.Need-loop-holds Inv-loop μ-loop
-loop-holds c = start-floats _ _ _ (c .least .ensures)
+loop-holds c = start-entries (ofBits binary32) _ _ _ (c .least .ensures)
 
 word-at-requires : tie.Need-word-at-requires Inv-loop μ-loop
-word-at-requires c κs = inside-bytes _ _ _ _ _ (c .before .loop .inv) (c .loop-test .taken)
+word-at-requires c κs = inside-bytes (ofBits binary32) _ _ _ _ _ (c .before .loop .inv) (c .loop-test .taken)
 
 slice-write-floats : tie.Need-slice-write-floats Inv-loop μ-loop
 slice-write-floats c = inside _ _ _ _ _ (c .before .before .before .loop .inv) (c .before .before .loop-test .taken) .1
@@ -25,7 +27,8 @@ slice-write-floats c = inside _ _ _ _ _ (c .before .before .before .loop .inv) (
 loop-again : tie.Need-loop-again Inv-loop μ-loop
 loop-again c =
     let s = c .before .before in
-    step-floats _ _ _ _ _ (s .before .loop .inv) (s .loop-test .taken) _ _ (c .from-bits .ensures) (c .before .word-at .ensures)
+    step-entries (ofBits binary32) _ _ _ _ _ (s .before .loop .inv) (s .loop-test .taken) _
+    (c .from-bits .ensures ∙ ap (ofBits binary32) (c .before .word-at .ensures))
 
 same : tie.Need-same-length Inv-loop μ-loop
 same c = same-length _ _ _ _ _ (c .before .loop .inv)
