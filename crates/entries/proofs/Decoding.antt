@@ -6,7 +6,7 @@ use Prim.Native.Nat.{ℕ, suc, _/_, _≤_, _<_}
 use native.Mathlib.Omega.{arith}
 use borrow.Author.Tests.{lt-ltb, le-ltb}
 use lib.Dec.{ltb}
-use lib.Ieee.{Float}
+use lib.Ieee.{Float, binary32, ofBits}
 use lib.ListN.{length}
 use Rattle.model.specs.Lists.{pick}
 use Rattle.model.specs.Scene as scene
@@ -64,14 +64,14 @@ module _ (table : List ℕ) (t : Track) (time : Float) (lent : List Float) where
   decoded h s e =
       e
       ∙ ap (λ (g : ℕ). sampled g (trackIn (floatsIn table) t) time lent)
-      (number-within (floatsIn table) t (subst (λ (n : ℕ). n ≤ decodedLimit) (sym (count table)) h))
+      (number-within (floatsIn table) t (subst (λ (n : ℕ). n ≤ decodedLimit) (sym (count (ofBits binary32) table)) h))
 
   module _ (h : decodedLimit < length table / 4) where
     over : (b : Bool) → (keysFit (length table / 4) t && valuesFit (length table / 4) t) ≡ b
         → decodedNumber (floatsIn table) t ≡ pick b 2 1
     over b p =
-        number-over (floatsIn table) t (subst (λ (n : ℕ). decodedLimit < n) (sym (count table)) h) b
-        (ap (λ (n : ℕ). keysFit n t && valuesFit n t) (count table) ∙ p)
+        number-over (floatsIn table) t (subst (λ (n : ℕ). decodedLimit < n) (sym (count (ofBits binary32) table)) h) b
+        (ap (λ (n : ℕ). keysFit n t && valuesFit n t) (count (ofBits binary32) table) ∙ p)
 
     pub over-limit : (keysFit (length table / 4) t && valuesFit (length table / 4) t) ≡ true
         → answerOf (sampledValue.Refused 2) lent ≡ sampledInBytes table t time lent

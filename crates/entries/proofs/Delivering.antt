@@ -3,12 +3,12 @@ use mathlib.Core.Path.{_≡_, refl, sym, ap, _∙_, subst}
 use mathlib.Core.List.{List, _++_}
 use Prim.Native.Nat.{ℕ, _*_, _/_, _≤_, min}
 use native.Mathlib.Omega.{arith}
-use lib.Ieee.{Float}
+use lib.Ieee.{Float, binary32, ofBits}
 use lib.ListN.{length, take, drop}
 use lib.Seq.{length-take-le}
 use Rattle.model.specs.Limits.{weightLimit}
 use Rattle.model.specs.Calls.{Sampled}
-use Rattle.wire.specs.Bytes.{floatsIn, bytesOf, WroteBytes}
+use Rattle.wire.specs.Bytes.{floatsIn, bytesOf, writtenAs, WroteBytes}
 use Rattle.wire.proofs.Reading.{count}
 use Rattle.wire.proofs.Writing.{all-written}
 use Rattle.scene.specs.Values.{vec3, quat}
@@ -43,14 +43,14 @@ module _ (weights : List Float) (a : SampledValue) (lentValue lentOut : List ℕ
   module _ (left : List ℕ) (n : ℕ) where
     pub wrote-vec3 : (v : Vec3) → a ≡ sampledValue.Vec3 v → length lentValue ≡ 16 → WroteBytes (vec3 v) lentValue left n
         → DeliveredBytes (answerOf a weights) lentValue left lentOut lentOut (record { number = 0; count = 0 })
-    unfolding bytesOf
+    unfolding writtenAs
     wrote-vec3 v e l w =
         from (sampledValue.Vec3 v) left lentOut _ e
         (record { number = refl; count = refl; value = all-written (vec3 v) lentValue left n w (omega arith) .1; weights = refl })
 
     pub wrote-quat : (q : Quat) → a ≡ sampledValue.Quat q → length lentValue ≡ 16 → WroteBytes (quat q) lentValue left n
         → DeliveredBytes (answerOf a weights) lentValue left lentOut lentOut (record { number = 0; count = 0 })
-    unfolding bytesOf
+    unfolding writtenAs
     wrote-quat q e l w =
         from (sampledValue.Quat q) left lentOut _ e
         (record { number = refl; count = refl; value = all-written (quat q) lentValue left n w (omega arith) .1; weights = refl })
@@ -59,7 +59,7 @@ module _ (weights : List Float) (a : SampledValue) (lentValue lentOut : List ℕ
         → (answerOf a weights .weights ≤ length weights) × (4 * answerOf a weights .weights ≤ length lentOut)
         → WroteBytes (take m weights) lentOut left n
         → DeliveredBytes (answerOf a weights) lentValue lentValue lentOut left (record { number = 0; count = n })
-    unfolding bytesOf
+    unfolding writtenAs
     wrote-weights m e fit w =
         let k = length-take-le m weights (weights-inside weights a m e (fit .0)) in
         let all = all-written (take m weights) lentOut left n w (omega (arith, counted weights a m e, fit .1, k)) in
@@ -73,7 +73,7 @@ module _ (weights : List Float) (a : SampledValue) (lentValue lentOut : List ℕ
 
   pub wrote-nothing : (m : ℕ) → a ≡ sampledValue.Refused m
       → DeliveredBytes (answerOf a weights) lentValue lentValue lentOut lentOut (record { number = m; count = 0 })
-  unfolding bytesOf
+  unfolding writtenAs
   wrote-nothing m e =
       from (sampledValue.Refused m) lentValue lentOut _ e (record { number = refl; count = refl; value = refl; weights = refl })
 
@@ -103,7 +103,7 @@ module _ (table : List ℕ) (t : Track) (time : Float) (weights : List Float) (l
   as-sampled lentValue leftValue leftOut told d =
       delivered-alike _ _ lentValue leftValue lentOut leftOut told
       (sampled-alike (trackIn (floatsIn table) t) time (decodedNumber (floatsIn table) t) (floatsIn lentOut) weights
-      (none-over (floatsIn table) t) (room ∙ ap (λ (n : ℕ). min n weightLimit) (sym (count lentOut))))
+      (none-over (floatsIn table) t) (room ∙ ap (λ (n : ℕ). min n weightLimit) (sym (count (ofBits binary32) lentOut))))
       (subst (λ (s : Sampled). DeliveredBytes s lentValue leftValue lentOut leftOut told) e d)
 
 -- a track and a time that were handed in as numbers

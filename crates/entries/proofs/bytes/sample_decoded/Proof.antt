@@ -18,7 +18,7 @@ returns c =
     let s = c .before .before .before .before .before .before .before .before .before .before in
     let r = c .before .before .before .before .before .before .read-floats in
     sampled-of _ _ (s .args .t) (s .args .time) (s .args .weights .now) _
-    (read-all _ _ _ _ (r .ensures) (omega (arith, s .pre, length-replicate 65536 (ofBits binary32 0)))) (c .before .before .sample .ensures)
+    (read-all (ofBits binary32) _ _ _ _ (r .ensures) (omega (arith, s .pre, length-replicate 65536 (ofBits binary32 0)))) (c .before .before .sample .ensures)
 
 pub sample-decoded-spec : {M : Type 1} → statement M
 sample-decoded-spec =

@@ -1,0 +1,115 @@
+// Bytes decoded into local arrays, slice by slice. Of a slice of more than its array holds the start is decoded.
+use crate::rooms::place_rooms;
+use tables::Header;
+use worlds::Answer;
+ghost use mathlib.Core.Path.{_≡_};
+ghost use lib.ListN.{take};
+ghost use Rattle.wire.specs.Bytes.{wordsIn, floatsIn};
+ghost use Rattle.checks.specs.Drawn.{lentAs, tablesNumber};
+ghost use Rattle.byte_entries.specs.Placed.{wordLimit, floatLimit, marksIn, slotsIn, PlacedBytes};
+
+// The most words of a scene, and the most floats of each of its slices.
+const WORDS: usize = 32768;
+
+const FLOATS: usize = 65536;
+// The words and floats of the pose slots of 1,024 nodes.
+const MARKS: usize = 4096;
+
+const SLOTS: usize = 10240;
+
+fn place_pose(
+    words: &[u32],
+    floats: &[f32],
+    node_weights: &[f32],
+    mesh_weights: &[f32],
+    h: Header,
+    marks: &[u8],
+    slots: &[u8],
+    walk: &mut [u8],
+    places: &mut [u8],
+    worlds: &mut [u8],
+) -> Answer
+    ensures { λ r. ⌜ PlacedBytes (tablesNumber (lentAs (now (words .entry)) (now (floats .entry)) (now («node_weights» .entry)) (now («mesh_weights» .entry)) h)) (lentAs (now (words .entry)) (now (floats .entry)) (now («node_weights» .entry)) (now («mesh_weights» .entry)) h) (marksIn (now (marks .entry))) (slotsIn (now (slots .entry))) (now (walk .entry)) (now (walk .exit)) (now (places .entry)) (now (places .exit)) (now (worlds .entry)) (now (worlds .exit)) r ⌝ }
+{
+    let mut four = [0u32; MARKS];
+    let mut ten = [0.0f32; SLOTS];
+    let m = wire::read_words(marks, &mut four);
+    let s = wire::read_floats(slots, &mut ten);
+    place_rooms(
+        words,
+        floats,
+        node_weights,
+        mesh_weights,
+        h,
+        &four[..m],
+        &ten[..s],
+        walk,
+        places,
+        worlds,
+    )
+}
+
+fn place_weights(
+    words: &[u32],
+    floats: &[f32],
+    node_weights: &[u8],
+    mesh_weights: &[u8],
+    h: Header,
+    marks: &[u8],
+    slots: &[u8],
+    walk: &mut [u8],
+    places: &mut [u8],
+    worlds: &mut [u8],
+) -> Answer
+    ensures { λ r. ⌜ PlacedBytes (tablesNumber (lentAs (now (words .entry)) (now (floats .entry)) (take floatLimit (floatsIn (now («node_weights» .entry)))) (take floatLimit (floatsIn (now («mesh_weights» .entry)))) h)) (lentAs (now (words .entry)) (now (floats .entry)) (take floatLimit (floatsIn (now («node_weights» .entry)))) (take floatLimit (floatsIn (now («mesh_weights» .entry)))) h) (marksIn (now (marks .entry))) (slotsIn (now (slots .entry))) (now (walk .entry)) (now (walk .exit)) (now (places .entry)) (now (places .exit)) (now (worlds .entry)) (now (worlds .exit)) r ⌝ }
+{
+    let mut of_nodes = [0.0f32; FLOATS];
+    let mut of_meshes = [0.0f32; FLOATS];
+    let n = wire::read_floats(node_weights, &mut of_nodes);
+    let m = wire::read_floats(mesh_weights, &mut of_meshes);
+    place_pose(
+        words,
+        floats,
+        &of_nodes[..n],
+        &of_meshes[..m],
+        h,
+        marks,
+        slots,
+        walk,
+        places,
+        worlds,
+    )
+}
+
+// Places in the start of each slice.
+pub(crate) fn place_decoded(
+    words: &[u8],
+    floats: &[u8],
+    node_weights: &[u8],
+    mesh_weights: &[u8],
+    h: Header,
+    marks: &[u8],
+    slots: &[u8],
+    walk: &mut [u8],
+    places: &mut [u8],
+    worlds: &mut [u8],
+) -> Answer
+    ensures { λ r. ⌜ PlacedBytes (tablesNumber (lentAs (take wordLimit (wordsIn (now (words .entry)))) (take floatLimit (floatsIn (now (floats .entry)))) (take floatLimit (floatsIn (now («node_weights» .entry)))) (take floatLimit (floatsIn (now («mesh_weights» .entry)))) h)) (lentAs (take wordLimit (wordsIn (now (words .entry)))) (take floatLimit (floatsIn (now (floats .entry)))) (take floatLimit (floatsIn (now («node_weights» .entry)))) (take floatLimit (floatsIn (now («mesh_weights» .entry)))) h) (marksIn (now (marks .entry))) (slotsIn (now (slots .entry))) (now (walk .entry)) (now (walk .exit)) (now (places .entry)) (now (places .exit)) (now (worlds .entry)) (now (worlds .exit)) r ⌝ }
+{
+    let mut records = [0u32; WORDS];
+    let mut numbers = [0.0f32; FLOATS];
+    let n = wire::read_words(words, &mut records);
+    let m = wire::read_floats(floats, &mut numbers);
+    place_weights(
+        &records[..n],
+        &numbers[..m],
+        node_weights,
+        mesh_weights,
+        h,
+        marks,
+        slots,
+        walk,
+        places,
+        worlds,
+    )
+}

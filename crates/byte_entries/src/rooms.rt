@@ -1,0 +1,112 @@
+// The placing in local room, written back to bytes.
+use tables::Header;
+use worlds::Answer;
+ghost use mathlib.Core.Path.{_≡_};
+ghost use Prim.Native.Nat.{_+_, _*_, _≤_};
+ghost use lib.ListN.{length, take};
+ghost use Rattle.checks.specs.Drawn.{lentAs, tablesNumber};
+ghost use Rattle.byte_entries.specs.Placed.{walkWords, codeWords, worldFloats, PlacedBytes, WrittenBack};
+
+// The most words of walk room, two an entry: as many as the limits of roots and child entries let a walk need.
+const WALK: usize = 18432;
+// The most nodes, and the floats of their worlds.
+const NODES: usize = 1024;
+
+const WORLDS: usize = 16384;
+
+fn write_back(
+    n: usize,
+    steps: &[u32],
+    codes: &[u32],
+    matrices: &[f32],
+    walk: &mut [u8],
+    places: &mut [u8],
+    worlds: &mut [u8],
+)
+    requires { ⌜ (n ≤ length (now codes)) × (n * 16 ≤ length (now matrices)) ⌝ }
+    requires { ⌜ (4 * length (now steps) ≤ length (now walk)) × (4 * n ≤ length (now places)) × (4 * (n * 16) ≤ length (now worlds)) ⌝ }
+    ensures { λ _. ⌜ WrittenBack n (now (steps .entry)) (now (codes .entry)) (now (matrices .entry)) (now (walk .entry)) (now (walk .exit)) (now (places .entry)) (now (places .exit)) (now (worlds .entry)) (now (worlds .exit)) ⌝ }
+{
+    let m = n * 16;
+    wire::write_words(steps, walk);
+    wire::write_words(&codes[..n], places);
+    wire::write_floats(&matrices[..m], worlds);
+}
+
+// Places in the given room, and writes back what was accepted.
+fn place_over(
+    words: &[u32],
+    floats: &[f32],
+    node_weights: &[f32],
+    mesh_weights: &[f32],
+    h: Header,
+    marks: &[u32],
+    slots: &[f32],
+    steps: &mut [u32],
+    codes: &mut [u32],
+    matrices: &mut [f32],
+    walk: &mut [u8],
+    places: &mut [u8],
+    worlds: &mut [u8],
+) -> Answer
+    requires { ⌜ (length (now steps) ≡ walkWords (now walk)) × (length (now codes) ≡ codeWords (now places)) × (length (now matrices) ≡ worldFloats (now worlds)) ⌝ }
+    ensures { λ r. ⌜ PlacedBytes (tablesNumber (lentAs (now (words .entry)) (now (floats .entry)) (now («node_weights» .entry)) (now («mesh_weights» .entry)) h)) (lentAs (now (words .entry)) (now (floats .entry)) (now («node_weights» .entry)) (now («mesh_weights» .entry)) h) (now (marks .entry)) (now (slots .entry)) (now (walk .entry)) (now (walk .exit)) (now (places .entry)) (now (places .exit)) (now (worlds .entry)) (now (worlds .exit)) r ⌝ }
+{
+    let a = worlds::posed_node_transforms(
+        words,
+        floats,
+        node_weights,
+        mesh_weights,
+        h,
+        marks,
+        slots,
+        steps,
+        codes,
+        matrices,
+    );
+    let number = a.number;
+    if number != 0 {
+        return a;
+    }
+    let nodes = h.graph.nodes;
+    write_back(nodes.count, steps, codes, matrices, walk, places, worlds);
+    a
+}
+
+// Places in local room.
+pub(crate) fn place_rooms(
+    words: &[u32],
+    floats: &[f32],
+    node_weights: &[f32],
+    mesh_weights: &[f32],
+    h: Header,
+    marks: &[u32],
+    slots: &[f32],
+    walk: &mut [u8],
+    places: &mut [u8],
+    worlds: &mut [u8],
+) -> Answer
+    ensures { λ r. ⌜ PlacedBytes (tablesNumber (lentAs (now (words .entry)) (now (floats .entry)) (now («node_weights» .entry)) (now («mesh_weights» .entry)) h)) (lentAs (now (words .entry)) (now (floats .entry)) (now («node_weights» .entry)) (now («mesh_weights» .entry)) h) (now (marks .entry)) (now (slots .entry)) (now (walk .entry)) (now (walk .exit)) (now (places .entry)) (now (places .exit)) (now (worlds .entry)) (now (worlds .exit)) r ⌝ }
+{
+    let mut steps = [0u32; WALK];
+    let mut codes = [0u32; NODES];
+    let mut matrices = [0.0f32; WORLDS];
+    let s = wire::least(walk.len() / 4, WALK);
+    let c = wire::least(places.len() / 4, NODES);
+    let m = wire::least(worlds.len() / 4, WORLDS);
+    place_over(
+        words,
+        floats,
+        node_weights,
+        mesh_weights,
+        h,
+        marks,
+        slots,
+        &mut steps[..s],
+        &mut codes[..c],
+        &mut matrices[..m],
+        walk,
+        places,
+        worlds,
+    )
+}
