@@ -1,10 +1,11 @@
-//! Where nodes stand: `parents` and `place_floats` on listings of every sort, in
-//! poses of every sort.
+//! Where nodes stand: `parents`, `place_floats` and `place` on listings of every
+//! sort, in poses of every sort.
 
 mod answers;
 mod case;
+mod on_bytes;
 mod poses;
-mod scenes;
+pub mod scenes;
 mod sorts;
 pub mod speed;
 
@@ -42,6 +43,7 @@ pub fn compare() -> bool {
         }
     }
     comparison.count(&scenes::at_limits(&mut rng), &mut rng);
+    comparison.count_long_slices(&mut rng);
     comparison.report()
 }
 
@@ -53,6 +55,7 @@ struct Comparison {
     short_places: Met<{ LENT.len() }>,
     faulty: Tally<(usize, usize)>,
     drawn: Met<2>,
+    on_bytes: on_bytes::Comparison,
 }
 
 impl Comparison {
@@ -65,6 +68,7 @@ impl Comparison {
             short_places: Met::new(LENT),
             faulty: Tally::new(),
             drawn: Met::new(["1", "2"]),
+            on_bytes: on_bytes::Comparison::new(),
         }
     }
 
@@ -77,12 +81,8 @@ impl Comparison {
                 self.met.count(sort);
             }
         }
-        let animation = Animation {
-            name: None,
-            channels: Vec::new(),
-        };
         for mut layout in [Layout::Compact, Layout::Spread(Rng::new(rng.bits()))] {
-            let lent = lend(scene, &animation, &mut layout);
+            let lent = lend(scene, &no_animation(), &mut layout);
             let lent = lent.of_port();
             assert_eq!(number(&lent), 0, "a scene inside the limits");
             let (posed, answers) = (&posed, &answers);
@@ -93,10 +93,25 @@ impl Comparison {
             };
             self.count_parents(scene, &case, rng);
             self.count_places(scene, &case, rng);
+            self.count_bytes(&case, rng);
             if !scene.nodes.is_empty() {
-                self.count_faulty(scene, &case);
+                self.count_faulty(scene, &case, rng);
             }
         }
+    }
+
+    /// A small scene in slices as long as `place` decodes, and one longer.
+    fn count_long_slices(&mut self, rng: &mut Rng) {
+        let scene = scenes::tree(rng, 7);
+        let posed = Posed::random(rng, scene.nodes.len());
+        let answers = Answers::of(&scene, &posed.of_rust(scene.nodes.len()));
+        let lent = lend(&scene, &no_animation(), &mut Layout::Compact);
+        let case = Case {
+            lent: lent.of_port(),
+            posed: &posed,
+            answers: &answers,
+        };
+        self.on_bytes.count_at_limits(&case, rng);
     }
 
     fn count_parents(&mut self, scene: &Scene3D, case: &Case, rng: &mut Rng) {
@@ -125,8 +140,19 @@ impl Comparison {
         }
     }
 
+    /// With more than suffices of everything, or one word or float too few of
+    /// one thing.
+    fn count_bytes(&mut self, case: &Case, rng: &mut Rng) {
+        let mut lens = case.more_lens([(); LENT.len()].map(|_| rng.below(4) as usize));
+        let of = rng.below(4 * LENT.len() as u32) as usize;
+        if let Some(len) = lens.get_mut(of) {
+            *len = case.lens()[of].saturating_sub(1);
+        }
+        self.on_bytes.count(case, lens, rng);
+    }
+
     /// Roots past the words, and a mark above 1.
-    fn count_faulty(&mut self, scene: &Scene3D, case: &Case) {
+    fn count_faulty(&mut self, scene: &Scene3D, case: &Case, rng: &mut Rng) {
         let lent = case.lent;
         let mut leaving = lent;
         leaving.header.graph.roots.at = lent.words.len() + 1;
@@ -139,6 +165,8 @@ impl Comparison {
         for lent in [leaving, marked] {
             let drawn = number(&lent);
             let is_refused = drawn != 0 && Case { lent, ..*case }.is_refused(drawn);
+            self.on_bytes
+                .count(&Case { lent, ..*case }, case.lens(), rng);
             self.drawn.count(usize::from(drawn == 2));
             let told = |_: &_| format!("not refused with {drawn}: {}", shown(scene));
             self.faulty.count(case.size(), is_refused, told);
@@ -159,8 +187,16 @@ impl Comparison {
             self.drawn.report(),
             self.short_parents.report(),
             self.short_places.report(),
+            self.on_bytes.report(),
         ];
         !all.contains(&false)
+    }
+}
+
+fn no_animation() -> Animation {
+    Animation {
+        name: None,
+        channels: Vec::new(),
     }
 }
 

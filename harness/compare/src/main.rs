@@ -10,8 +10,8 @@
 //! ```
 //!
 //! ORACLE_SRC names the folder of the Rust's source and PORT_LIB_DIR that of
-//! libentries.a, where they are not in their usual places (see the build
-//! scripts).
+//! the port's libraries, where they are not in their usual places (see the
+//! build scripts).
 
 mod graph;
 mod leaves;
@@ -84,5 +84,6 @@ fn speed() {
     matrices::speed::measure();
     sampling::speed::measure();
     tables::speed::measure();
+    pose::speed::measure();
     graph::speed::measure();
 }

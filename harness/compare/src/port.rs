@@ -1,8 +1,10 @@
 //! The foreign functions, each safe to call: the port's entries and the C
 //! library's clock. No module outside has unsafe code.
 
+mod bytes;
 mod lent;
 
+pub use bytes::*;
 pub use lent::*;
 
 pub mod scene;

@@ -5,6 +5,8 @@
 //! (sampling/values.rs). Where that rule compares nothing, either side may find
 //! the turn without length.
 
+pub mod speed;
+
 use crate::{
     port,
     rng::Rng,

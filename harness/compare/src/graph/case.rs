@@ -21,14 +21,14 @@ pub struct Case<'a> {
 
 /// What `place_floats` writes to, floats as their bits with all NaNs one.
 #[derive(Debug, PartialEq)]
-struct Room {
-    walk: Vec<u32>,
-    places: Vec<u32>,
-    worlds: Vec<u32>,
+pub struct Room {
+    pub walk: Vec<u32>,
+    pub places: Vec<u32>,
+    pub worlds: Vec<u32>,
 }
 
 impl Case<'_> {
-    fn nodes(&self) -> usize {
+    pub fn nodes(&self) -> usize {
         self.answers.places.len()
     }
 
@@ -60,13 +60,13 @@ impl Case<'_> {
     }
 
     /// The lengths that suffice.
-    fn lens(&self) -> [usize; LENT.len()] {
+    pub fn lens(&self) -> [usize; LENT.len()] {
         let nodes = self.nodes();
         let entries = self.answers.entries;
         [2 * entries, 4 * nodes, 10 * nodes, nodes, 16 * nodes]
     }
 
-    fn run_places(&self, lens: [usize; LENT.len()]) -> (Placed, Room) {
+    pub fn run_places(&self, lens: [usize; LENT.len()]) -> (Placed, Room) {
         let [walk, marks, slots, places, worlds] = lens;
         let (marks, slots) = (&self.posed.marks[..marks], &self.posed.slots[..slots]);
         let (mut walk, mut places) = (filled(walk), filled(places));
@@ -109,7 +109,7 @@ impl Case<'_> {
         format!("Rust {taken} {places:?} {worlds:x?}, port {port:x?}")
     }
 
-    fn more_lens(&self, more: [usize; LENT.len()]) -> [usize; LENT.len()] {
+    pub fn more_lens(&self, more: [usize; LENT.len()]) -> [usize; LENT.len()] {
         let mut lens = self.lens();
         lens.iter_mut()
             .zip(more)

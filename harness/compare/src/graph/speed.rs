@@ -1,27 +1,24 @@
 //! The speed of both walks on trees, per node.
 
-use super::{answers::Answers, poses::Posed, scenes::tree};
+use super::{answers::Answers, no_animation, on_bytes::encoded, poses::Posed, scenes::tree};
 use crate::{
     measure::side_by_side,
-    port::{self, Placed},
+    port::{self, ByteTables, Placed},
     rng::Rng,
     tables::{
         build::lend,
         layout::{Layout, Lent},
     },
 };
-use oracle::{Animation, Scene3D};
+use oracle::Scene3D;
 use std::hint::black_box;
 
 pub fn measure() {
     for nodes in [64, 1_024] {
         let scene = tree(&mut Rng::new(1), nodes);
-        let animation = Animation {
-            name: None,
-            channels: Vec::new(),
-        };
-        let lent = lend(&scene, &animation, &mut Layout::Compact);
+        let lent = lend(&scene, &no_animation(), &mut Layout::Compact);
         measure_places(&scene, &lent);
+        measure_bytes(&scene, &lent);
         measure_parents(&scene, &lent);
     }
 }
@@ -47,6 +44,47 @@ fn measure_places(scene: &Scene3D, lent: &Lent) {
     assert_eq!(place(), Placed { number: 0, taken });
     side_by_side(
         &format!("place_floats, nodes {nodes}"),
+        nodes,
+        || {
+            black_box(place());
+        },
+        || {
+            black_box(black_box(scene).posed_node_transforms(&pose));
+        },
+    );
+}
+
+fn measure_bytes(scene: &Scene3D, lent: &Lent) {
+    let nodes = scene.nodes.len();
+    let posed = Posed::plain(&mut Rng::new(2), nodes);
+    let pose = posed.of_rust(nodes);
+    let taken = Answers::of(scene, &pose).taken;
+    let bytes = |floats: &[f32]| encoded(floats.iter().map(|x| x.to_bits()), 0);
+    let (words, floats) = (encoded(lent.words.iter().copied(), 0), bytes(&lent.floats));
+    let weights = [&lent.node_weights, &lent.mesh_weights].map(|floats| bytes(floats));
+    let lent = ByteTables {
+        words: &words,
+        floats: &floats,
+        node_weights: &weights[0],
+        mesh_weights: &weights[1],
+        header: lent.header,
+    };
+    let (marks, slots) = (encoded(posed.marks.iter().copied(), 0), bytes(&posed.slots));
+    let mut walk = vec![0; 8 * taken];
+    let (mut places, mut worlds) = (vec![0; 4 * nodes], vec![0; 64 * nodes]);
+    let mut place = || {
+        port::place(
+            black_box(&lent),
+            &marks,
+            &slots,
+            &mut walk,
+            &mut places,
+            &mut worlds,
+        )
+    };
+    assert_eq!(place(), Placed { number: 0, taken });
+    side_by_side(
+        &format!("place on bytes, nodes {nodes}"),
         nodes,
         || {
             black_box(place());

@@ -10,7 +10,7 @@ use crate::{
 };
 
 /// The most floats of a table that the port decodes.
-const DECODED_LIMIT: usize = 65_536;
+pub const DECODED_LIMIT: usize = 65_536;
 const LENT: u8 = 0xa5;
 
 pub struct Comparison {

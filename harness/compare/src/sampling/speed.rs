@@ -2,7 +2,10 @@
 //! does not: it is measured alone, and once more with the check that its track
 //! builders make.
 
-use super::tracks::{factor, keys_in_line, Track};
+use super::{
+    on_bytes::DECODED_LIMIT,
+    tracks::{factor, keys_in_line, Track},
+};
 use crate::{
     matrices::inputs::unit_quaternion,
     measure::side_by_side,
@@ -17,7 +20,7 @@ const WEIGHTS: usize = 64;
 /// Keys of a track, and how many times it is sampled at in one go.
 const LENGTHS: [(usize, usize); 2] = [(64, 1024), (65_535, 16)];
 
-type Maker = fn(&mut Rng, usize) -> AnimationValues;
+pub type Maker = fn(&mut Rng, usize) -> AnimationValues;
 
 const SORTS: [(&str, Interpolation, Maker); 3] = [
     ("vec3 Linear", Interpolation::Linear, vectors),
@@ -38,6 +41,9 @@ pub fn measure() {
             let end = (keys - 1) as f32 / 32.0;
             let times: Vec<f32> = repeat_with(|| end * rng.unit()).take(times).collect();
             measure_track(&format!("{keys} keys, {name}"), &track, &times);
+            if track.of_port().floats.len() <= DECODED_LIMIT {
+                measure_bytes("  on bytes, beside the Rust", &track, &times);
+            }
         }
         measure_keys(keys);
     }
@@ -77,6 +83,30 @@ fn measure_track(name: &str, track: &Track, times: &[f32]) {
     );
 }
 
+fn measure_bytes(name: &str, track: &Track, times: &[f32]) {
+    let lent = track.of_port();
+    let table: Vec<u8> = lent.floats.iter().flat_map(|x| x.to_le_bytes()).collect();
+    let (mut value, mut out) = ([0; 16], [0; 4 * WEIGHTS]);
+    let told = port::sample_bytes(&lent, &table, times[0].to_bits(), &mut value, &mut out);
+    assert_eq!(told.number, 0, "{name}: the speed of a refusal");
+    side_by_side(
+        name,
+        times.len(),
+        || {
+            for time in times {
+                let time = time.to_bits();
+                let (value, out) = (black_box(&mut value), black_box(&mut out[..]));
+                black_box(port::sample_bytes(&lent, &table, time, value, out));
+            }
+        },
+        || {
+            for time in times {
+                black_box(sample(&track.sampler, *time));
+            }
+        },
+    );
+}
+
 fn measure_keys(count: usize) {
     let keys: Vec<f32> = (0..count).map(|k| k as f32 / 32.0).collect();
     side_by_side(
@@ -104,12 +134,12 @@ fn checked_sample(sampler: &AnimationSampler, time: f32) -> Option<SampledValue>
     sampler.sample(time)
 }
 
-fn vectors(rng: &mut Rng, count: usize) -> AnimationValues {
+pub fn vectors(rng: &mut Rng, count: usize) -> AnimationValues {
     let vector = || from_fn(|_| rng.signed_unit());
     AnimationValues::Vec3(repeat_with(vector).take(count).collect())
 }
 
-fn turns(rng: &mut Rng, count: usize) -> AnimationValues {
+pub fn turns(rng: &mut Rng, count: usize) -> AnimationValues {
     let turns: Vec<Quat> = repeat_with(|| unit_quaternion(rng)).take(count).collect();
     AnimationValues::Quat(turns)
 }
