@@ -119,6 +119,14 @@ Answer place_floats(const uint32_t *words, size_t words_len, const float *floats
                     size_t slots_len, uint32_t *walk, size_t walk_len, uint32_t *places, size_t places_len, float *worlds,
                     size_t worlds_len);
 
+/* The same on little-endian bytes, in target/staticlib/libbyte_entries.a (`rt staticlib byte_entries`): a NaN is written as
+   7fc00000, and bytes past the last whole word of a slice are not counted. A scene of more than 32,768 words, or 65,536
+   floats in a slice, draws 2. Of pose and world slots 1,024 are used, and of the walk room 18,432 words. */
+Answer place(const uint8_t *words, size_t words_len, const uint8_t *floats, size_t floats_len,
+             const uint8_t *node_weights, size_t node_weights_len, const uint8_t *mesh_weights, size_t mesh_weights_len,
+             Header header, const uint8_t *marks, size_t marks_len, const uint8_t *slots, size_t slots_len, uint8_t *walk,
+             size_t walk_len, uint8_t *places, size_t places_len, uint8_t *worlds, size_t worlds_len);
+
 /* The pose of every node at a time, in slots of four words and ten floats. The words mark translation, rotation and scale;
    the fourth is 1 + the channel that gives the morph weights, or 0. Floats that are not posed are 0. Answers 1, 2, 3, 5, 6
    or 0; where it is not 0, nothing is changed. */
