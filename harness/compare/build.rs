@@ -1,10 +1,10 @@
-//! Links the port: libentries.a and libbyte_entries.a from the folder
-//! PORT_LIB_DIR, by default from the repository's target/staticlib.
+//! Links the libraries of the port from the folder PORT_LIB_DIR, by default from
+//! the repository's target/staticlib.
 
 use std::{env, path::PathBuf};
 
 const DEFAULT_FOLDER: &str = "../../target/staticlib";
-const LIBRARIES: [&str; 2] = ["entries", "byte_entries"];
+const LIBRARIES: [&str; 3] = ["entries", "track_entries", "byte_entries"];
 
 fn main() {
     println!("cargo:rerun-if-changed=build.rs");

@@ -1,6 +1,2 @@
 pub mod Filling
 pub mod Cases
-pub mod Handing
-pub mod Rooms
-pub mod Decoding
-pub mod Delivering

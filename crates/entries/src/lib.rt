@@ -1,12 +1,9 @@
-// The C functions that other languages link (`rt staticlib entries`).
-mod bytes;
+// The C functions on numbers, matrices and lent scenes (`rt staticlib entries`).
 mod inverses;
 mod leaves;
 mod lent;
 mod matrices;
-mod tracks;
 
-pub use bytes::sample;
 pub use inverses::scene_linear_inverse_transpose;
 pub use inverses::scene_mat4_affine_inverse;
 pub use inverses::scene_normal_matrix;
@@ -31,8 +28,3 @@ pub use matrices::scene_to_matrix;
 pub use matrices::scene_transform_point;
 pub use matrices::scene_trs_to_matrix;
 pub use matrices::scene_vec3_len;
-pub use tracks::Told;
-pub use tracks::frame_floats;
-pub use tracks::keys_in_line_floats;
-pub use tracks::sample_floats;
-pub use tracks::stride_floats;

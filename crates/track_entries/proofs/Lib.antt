@@ -1,0 +1,4 @@
+pub mod Handing
+pub mod Rooms
+pub mod Decoding
+pub mod Delivering

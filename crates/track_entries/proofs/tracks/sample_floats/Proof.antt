@@ -1,0 +1,38 @@
+-- `track_entries::tracks::sample_floats` meets its contract. Assumes nothing.
+use borrow.Author.Needs.{needs}
+use Rattle.track_entries.proofs.Handing.{left-vec3, left-quat, left-weights, left-refused, sampled-alike}
+use Rattle.track_entries.proofs.tracks.sample_floats.Statement.{statement}
+use Rattle.track_entries.proofs.tracks.sample_floats.Tie as tie
+
+returns : tie.Need-returns
+returns c = left-vec3 _ _ _ _ (sampled-alike _ _ _ (c .before .before .before .before .before .before .before .before .before .track-for .ensures) _ _ _ (c .before .before .before .before .before .before .before .sample .ensures)) _ _ (c .before .before .before .v .given .1) (c .vec3-over .ensures)
+
+returns-2 : tie.Need-returns-2
+returns-2 c = left-quat _ _ _ _ (sampled-alike _ _ _ (c .before .before .before .before .before .before .before .before .before .track-for .ensures) _ _ _ (c .before .before .before .before .before .before .before .sample .ensures)) _ _ (c .before .before .before .q .given .1) (c .quat-over .ensures)
+
+returns-3 : tie.Need-returns-3
+returns-3 c = left-weights _ _ _ _ (sampled-alike _ _ _ (c .before .before .before .before .before .before .before .track-for .ensures) _ _ _ (c .before .before .before .before .before .sample .ensures)) _ (c .before .count .given .1)
+
+returns-4 : tie.Need-returns-4
+returns-4 c = left-refused _ _ _ _ (sampled-alike _ _ _ (c .before .before .before .before .before .before .before .track-for .ensures) _ _ _ (c .before .before .before .before .before .sample .ensures)) _ (c .before .number .given .1)
+
+pub sample-floats-spec : {M : Type 1} → statement M
+sample-floats-spec =
+    tie.close
+    (tie.spec
+    (λ c κs. search needs)
+    (λ c κs. search needs)
+    (λ c. search needs)
+    (λ c κs. search needs)
+    (λ c. search needs)
+    (λ c κs. search needs)
+    (λ c. search needs)
+    (λ c. search needs)
+    (λ c. search needs)
+    returns
+    (λ c. search needs)
+    returns-2
+    (λ c. search needs)
+    returns-3
+    (λ c. search needs)
+    returns-4)
