@@ -1,7 +1,7 @@
 /* The C functions of libentries.a, libtrack_entries.a (those on tracks) and libbyte_entries.a (`place`) in
    target/staticlib (`rt staticlib entries` and so on). A slice is a pointer and a length; a pointer to an array reaches over
-   the length that is given. Pointers of length 0 must not be null. Slices that are written must
-   not overlap others. docs/TABLES.md says what a track is, and lists the refusal numbers. */
+   the length that is given. Pointers of length 0 must not be null. Slices that are written must not overlap others.
+   docs/TABLES.md says what a track is, and lists the refusal numbers. */
 #ifndef ENTRIES_H
 #define ENTRIES_H
 
@@ -120,8 +120,9 @@ Answer place_floats(const uint32_t *words, size_t words_len, const float *floats
                     size_t slots_len, uint32_t *walk, size_t walk_len, uint32_t *places, size_t places_len, float *worlds,
                     size_t worlds_len);
 
-/* The same on little-endian bytes: a NaN is written as 7fc00000, and bytes past the last whole word of a slice are not counted. A scene of more than 32,768 words, or 65,536
-   floats in a slice, draws 2. Of pose and world slots 1,024 are used, and of the walk room 18,432 words. */
+/* The same on little-endian bytes: a NaN is written as 7fc00000, and bytes past the last whole word of a slice are not
+   counted. A scene of more than 32,768 words, or 65,536 floats in a slice, draws 2. Of pose and world slots 1,024 are used,
+   and of the walk room 18,432 words. */
 Answer place(const uint8_t *words, size_t words_len, const uint8_t *floats, size_t floats_len,
              const uint8_t *node_weights, size_t node_weights_len, const uint8_t *mesh_weights, size_t mesh_weights_len,
              Header header, const uint8_t *marks, size_t marks_len, const uint8_t *slots, size_t slots_len, uint8_t *walk,
