@@ -1,0 +1,3 @@
+pub mod Floatwise
+pub mod DeltaLaws
+pub mod AddLaws
