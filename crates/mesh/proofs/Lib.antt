@@ -1,3 +1,5 @@
 pub mod Floatwise
 pub mod DeltaLaws
 pub mod AddLaws
+pub mod Rising
+pub mod Segments

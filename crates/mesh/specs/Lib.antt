@@ -1,2 +1,4 @@
 pub mod Lent
 pub mod Mixed
+pub mod Stations
+pub mod Blended

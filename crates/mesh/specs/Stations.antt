@@ -1,0 +1,89 @@
+-- The stations of a target as code keeps them: of all stations only the two ends of a segment, and the longest slots. Definitions only.
+use mathlib.Core.Path.{_≡_}
+use mathlib.Core.Bool.{Bool, _&&_}
+use mathlib.Core.List.{List, [], _∷_}
+use mathlib.Core.Option.{Option, none}
+use Prim.Native.Nat.{ℕ, _+_, _/_, max}
+use lib.Dec.{eqb}
+use lib.Ieee.{Float, lt, le, eq}
+use lib.ListN.{length, getD}
+use Rattle.float.specs.F32.{zero32}
+use Rattle.model.specs.Lists.{pick, keep, tabulate, orElse}
+use Rattle.model.specs.Vector.{Vector}
+use Rattle.model.specs.Scene.{InBetween, Target}
+use Rattle.model.specs.Morph as morph
+use Rattle.animation.specs.declared.Part.{Part}
+use Rattle.tables.specs.declared.Header.{Header}
+use Rattle.tables.specs.declared.InBetweenRow.{InBetweenRow}
+use Rattle.tables.specs.Records.{inBetweenRow}
+use Rattle.tables.specs.Decoded.{slotIn, inBetweenOf, recordsIn}
+use Rattle.mesh.specs.declared.Station.{Station}
+use Rattle.mesh.specs.declared.Segment.{Segment}
+use Rattle.mesh.specs.declared.Blend.{Blend}
+use Rattle.mesh.specs.Lent.{lentIn, deltasIn}
+
+-- ---- of the model: the segment of w in a list of two stations or more, and the longest of the slots, an absent one having no entries
+
+abbrev blank : morph.Station
+blank = record { weight = zero32; positions = none; normals = none }
+
+abbrev pub segmentOf : Float → List morph.Station → morph.Segment
+segmentOf w [] = record { low = blank; high = blank }
+segmentOf w (a ∷ []) = record { low = blank; high = blank }
+segmentOf w (a ∷ b ∷ rest) = morph.segmentFrom w a b rest
+
+unfoldable pub longestOf : (morph.Station → Option (List Vector)) → List morph.Station → ℕ
+longestOf slot [] = 0
+longestOf slot (s ∷ l) = max (length (orElse (slot s) [])) (longestOf slot l)
+
+-- ---- what a station and a segment of the code are
+
+abbrev pub stationFor : List Float → Station → morph.Station
+stationFor floats s = record { weight = s .weight; positions = slotIn floats (s .positions) 3; normals = slotIn floats (s .normals) 3 }
+
+abbrev pub segmentFor : List Float → Segment → morph.Segment
+segmentFor floats g = record { low = stationFor floats (g .low); high = stationFor floats (g .high) }
+
+-- what is kept of the stations of t for a weight w
+pub record Blends (floats : List Float) (t : Target) (w : Float) (b : Blend) : Type 0 where
+  pub segment : segmentFor floats (b .segment) ≡ segmentOf w (morph.stations t)
+  pub positions : b .positions ≡ longestOf (λ (s : morph.Station). s .positions) (morph.stations t)
+  pub normals : b .normals ≡ longestOf (λ (s : morph.Station). s .normals) (morph.stations t)
+
+-- ---- one station more
+
+unfoldable pub narrowedIn : Float → Segment → Station → Segment
+narrowedIn w g s =
+    pick (lt (s .weight) (g .low .weight))
+    (pick (le w (g .low .weight)) (record { low = s; high = g .low }) g)
+    (pick (lt (s .weight) (g .high .weight))
+    (pick (le w (s .weight)) (record { low = g .low; high = s }) (record { low = s; high = g .high }))
+    (pick (le w (g .high .weight)) g (record { low = g .high; high = s })))
+
+unfoldable pub widenedIn : List Float → Float → Blend → Station → Blend
+widenedIn floats w b s = record {
+  segment = narrowedIn w (b .segment) s;
+  positions = max (length (deltasIn floats (s .positions)) / 3) (b .positions);
+  normals = max (length (deltasIn floats (s .normals)) / 3) (b .normals);
+}
+
+-- ---- the in-betweens that a part names
+
+abbrev pub betweensIn : List ℕ → List Float → Header → Part → List InBetween
+betweensIn words floats h betweens = recordsIn (λ i. inBetweenOf (lentIn words floats h) (inBetweenRow words (h .meshes .«in_betweens») i)) betweens
+
+abbrev pub stationAt : List ℕ → List Float → Header → Part → ℕ → Station
+stationAt words floats h betweens k =
+    let r = inBetweenRow words (h .meshes .«in_betweens») (betweens .at + k) in
+    record { weight = getD floats (r .weight) zero32; positions = r .positions; normals = r .normals }
+
+abbrev pub stationsIn : List ℕ → List Float → Header → Part → List Station
+stationsIn words floats h betweens = tabulate (betweens .count) (stationAt words floats h betweens)
+
+-- how many have a weight
+abbrev pub sharing : List InBetween → Float → ℕ
+sharing all w = length (keep (λ (c : InBetween). eq (c .weight) w) all)
+
+-- the weight of an in-between that is valid, and has its weight alone
+abbrev pub keptIn : List InBetween → Float → Bool
+keptIn all w = morph.valid w && eqb (sharing all w) 1
