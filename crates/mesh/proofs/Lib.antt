@@ -3,3 +3,7 @@ pub mod DeltaLaws
 pub mod AddLaws
 pub mod Rising
 pub mod Segments
+pub mod BetweenLaws
+pub mod SlotLaws
+pub mod StationLaws
+pub mod TargetLaws

@@ -10,7 +10,7 @@ use lib.ListN.{length, getD}
 use Rattle.float.specs.F32.{zero32}
 use Rattle.model.specs.Lists.{pick, keep, tabulate, orElse}
 use Rattle.model.specs.Vector.{Vector}
-use Rattle.model.specs.Scene.{InBetween, Target}
+use Rattle.model.specs.Scene.{InBetween}
 use Rattle.model.specs.Morph as morph
 use Rattle.animation.specs.declared.Part.{Part}
 use Rattle.tables.specs.declared.Header.{Header}
@@ -44,11 +44,11 @@ stationFor floats s = record { weight = s .weight; positions = slotIn floats (s 
 abbrev pub segmentFor : List Float → Segment → morph.Segment
 segmentFor floats g = record { low = stationFor floats (g .low); high = stationFor floats (g .high) }
 
--- what is kept of the stations of t for a weight w
-pub record Blends (floats : List Float) (t : Target) (w : Float) (b : Blend) : Type 0 where
-  pub segment : segmentFor floats (b .segment) ≡ segmentOf w (morph.stations t)
-  pub positions : b .positions ≡ longestOf (λ (s : morph.Station). s .positions) (morph.stations t)
-  pub normals : b .normals ≡ longestOf (λ (s : morph.Station). s .normals) (morph.stations t)
+-- what is kept of a list of stations for a weight w
+pub record Blends (floats : List Float) (all : List morph.Station) (w : Float) (b : Blend) : Type 0 where
+  pub segment : segmentFor floats (b .segment) ≡ segmentOf w all
+  pub positions : b .positions ≡ longestOf (λ (s : morph.Station). s .positions) all
+  pub normals : b .normals ≡ longestOf (λ (s : morph.Station). s .normals) all
 
 -- ---- one station more
 
@@ -87,3 +87,7 @@ sharing all w = length (keep (λ (c : InBetween). eq (c .weight) w) all)
 -- the weight of an in-between that is valid, and has its weight alone
 abbrev pub keptIn : List InBetween → Float → Bool
 keptIn all w = morph.valid w && eqb (sharing all w) 1
+
+-- the blend with s among its stations, if it is one
+unfoldable pub widenedBy : List Float → Float → List InBetween → Blend → Station → Blend
+widenedBy floats w all b s = pick (keptIn all (s .weight)) (widenedIn floats w b s) b

@@ -1,10 +1,18 @@
 // Morphed vertices, by the scope paper's rules: targets are added, one after the other, to positions, normals and tangents
 // that lie in lent flat slices.
+use animation::Part;
+use tables::Header;
 use tables::Slot;
+ghost use mathlib.Core.Path.{_≡_};
+ghost use Rattle.model.specs.Morph.{withTargets};
+ghost use Rattle.model.specs.Attributes.{attributesIn, shapeOf, Reshaped};
+ghost use Rattle.mesh.specs.Lent.{targetsIn};
 
 mod adding;
 mod betweens;
+mod blending;
 mod stations;
+mod targets;
 
 // An in-between that stands among 0 and 1, with its deltas.
 pub struct Station {
@@ -24,4 +32,26 @@ pub struct Blend {
     pub segment: Segment,
     pub positions: usize,
     pub normals: usize,
+}
+
+// The vertices with the targets of a part added at these weights, in place.
+pub fn morphed(
+    words: &[u32],
+    floats: &[f32],
+    h: Header,
+    targets: Part,
+    weights: &[f32],
+    positions: &mut [f32],
+    normals: &mut [f32],
+    tangents: &mut [f32],
+)
+    ensures { λ _. ⌜ Reshaped (shapeOf (withTargets (targetsIn (now (words .entry)) (now (floats .entry)) h targets) (now (weights .entry)) (attributesIn (now (positions .entry)) (now (normals .entry)) (now (tangents .entry))))) (now (positions .entry)) (now (positions .exit)) (now (normals .entry)) (now (normals .exit)) (now (tangents .entry)) (now (tangents .exit)) ⌝ }
+{
+    let n = wire::least(targets.count, weights.len());
+    let mut k = 0;
+    while k < n {
+        let row = betweens::target_at(words, h, targets, k);
+        targets::add_target(words, floats, h, row, weights[k], positions, normals, tangents);
+        k += 1;
+    }
 }

@@ -1,0 +1,48 @@
+use crate::adding::add_scaled;
+use crate::adding::add_tangents;
+use crate::adding::deltas_in;
+use crate::betweens::has_valid;
+use crate::blending::add_stations;
+use tables::Header;
+use tables::TargetRow;
+ghost use mathlib.Core.Path.{_≡_};
+ghost use Rattle.model.specs.Lists.{rowsIn};
+ghost use Rattle.model.specs.Vector.{_⊙_, _⊞_};
+ghost use Rattle.model.specs.Morph.{withTarget};
+ghost use Rattle.model.specs.Attributes.{attributesIn, shapeOf, Reshaped};
+ghost use Rattle.tables.specs.Decoded.{targetOf};
+ghost use Rattle.mesh.specs.Lent.{lentIn, deltasIn};
+ghost use Rattle.mesh.specs.Added.{Added};
+
+// Adds w times the deltas of a target to positions and normals.
+fn add_plain(floats: &[f32], row: TargetRow, w: f32, positions: &mut [f32], normals: &mut [f32])
+    ensures { λ _. ⌜ Added (λ v d. v ⊞ w ⊙ d) (rowsIn 3 (deltasIn (now (floats .entry)) (row .positions))) (rowsIn 3 (deltasIn (now (floats .entry)) (row .normals))) (now (positions .entry)) (now (positions .exit)) (now (normals .entry)) (now (normals .exit)) ⌝ }
+{
+    add_scaled(positions, w, deltas_in(floats, row.positions));
+    add_scaled(normals, w, deltas_in(floats, row.normals));
+}
+
+// Adds a target at weight w: nothing at 0, by its stations if an in-between has a valid weight, else w times its deltas. Tangents
+// have no stations.
+pub(crate) fn add_target(
+    words: &[u32],
+    floats: &[f32],
+    h: Header,
+    row: TargetRow,
+    w: f32,
+    positions: &mut [f32],
+    normals: &mut [f32],
+    tangents: &mut [f32],
+)
+    ensures { λ _. ⌜ Reshaped (shapeOf (withTarget (attributesIn (now (positions .entry)) (now (normals .entry)) (now (tangents .entry))) (targetOf (lentIn (now (words .entry)) (now (floats .entry)) h) row) w)) (now (positions .entry)) (now (positions .exit)) (now (normals .entry)) (now (normals .exit)) (now (tangents .entry)) (now (tangents .exit)) ⌝ }
+{
+    if w == 0.0 {
+        return;
+    }
+    add_tangents(tangents, w, deltas_in(floats, row.tangents));
+    if has_valid(words, floats, h, row.in_betweens) {
+        add_stations(words, floats, h, row, w, positions, normals);
+        return;
+    }
+    add_plain(floats, row, w, positions, normals);
+}
