@@ -26,10 +26,10 @@ module _ (words : List ℕ) (t : Part) (stride i : ℕ) (wide : i ≤ i * stride
   cut-off k = elim (decLt i (length words)) [
     | yes h ↦ let e : min i (length words) ≡ i = omega arith in ap (λ (n : ℕ). getD words (t .at + n * stride + k) 0) e
     | no h ↦
-      let e : min i (length words) ≡ length words = omega arith in
-      ap (λ (n : ℕ). getD words (t .at + n * stride + k) 0) e
-      ∙ List·getD-eq-default words 0 {n = t .at + length words * stride + k} (omega arith)
-      ∙ sym (List·getD-eq-default words 0 {n = t .at + i * stride + k} (omega arith))
+        let e : min i (length words) ≡ length words = omega arith in
+        ap (λ (n : ℕ). getD words (t .at + n * stride + k) 0) e
+        ∙ List·getD-eq-default words 0 {n = t .at + length words * stride + k} (omega arith)
+        ∙ sym (List·getD-eq-default words 0 {n = t .at + i * stride + k} (omega arith))
   ]
 
 pub target-cut-off : (words : List ℕ) (t : Part) (i : ℕ) → targetRow words t (min i (length words)) ≡ targetRow words t i

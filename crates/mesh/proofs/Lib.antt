@@ -7,3 +7,5 @@ pub mod BetweenLaws
 pub mod SlotLaws
 pub mod StationLaws
 pub mod TargetLaws
+pub mod Sizes
+pub mod Morphing

@@ -21,11 +21,11 @@ use Rattle.mesh.specs.Stations.{longestOf}
 use Rattle.mesh.specs.Blended.{partOfWay, countIn, blendedIn}
 
 -- as `Morph` has them
-abbrev entryOf : Option (List Vector) → ℕ → Vector
+abbrev pub entryOf : Option (List Vector) → ℕ → Vector
 entryOf none i = zero32 ∷ zero32 ∷ zero32 ∷ []
 entryOf (some l) i = getD l i (zero32 ∷ zero32 ∷ zero32 ∷ [])
 
-abbrev longer : Option (List Vector) → Option ℕ → Option ℕ
+abbrev pub longer : Option (List Vector) → Option ℕ → Option ℕ
 longer none n = n
 longer (some l) none = some (length l)
 longer (some l) (some n) = some (max (length l) n)

@@ -20,7 +20,7 @@ use Rattle.mesh.proofs.Segments.{Sorted, inserted-sorted}
 use Rattle.mesh.proofs.DeltaLaws.{no-deltas, over-own}
 
 -- as `Morph` has it
-abbrev onSlot : (Vector → Vector → Vector) → List Vector → Option (List Vector) → List Vector
+abbrev pub onSlot : (Vector → Vector → Vector) → List Vector → Option (List Vector) → List Vector
 onSlot f vs none = vs
 onSlot f vs (some ds) = withDeltas f vs ds
 
@@ -61,14 +61,14 @@ stations-sorted t = sorted-all (t .inBetweens) (t .inBetweens) _ ((below-of-lt z
 
 -- ---- what a target makes of vertices
 module _ (w : Float) (t : Target) (ps ns ts : List Vector) where
-  plain-is : plainTarget w t (vertices ps ns ts) ≡ vertices (withDeltas (λ v d. v ⊞ w ⊙ d) ps (orElse (t .positions) [])) (withDeltas (λ v d. v ⊞ w ⊙ d) ns (orElse (t .normals) [])) (withDeltas (plusXyz w) ts (orElse (t .tangents) []))
+  pub plain-is : plainTarget w t (vertices ps ns ts) ≡ vertices (withDeltas (λ v d. v ⊞ w ⊙ d) ps (orElse (t .positions) [])) (withDeltas (λ v d. v ⊞ w ⊙ d) ns (orElse (t .normals) [])) (withDeltas (plusXyz w) ts (orElse (t .tangents) []))
   unfolding plainTarget
   plain-is = λ j. vertices (on-slot (λ v d. v ⊞ w ⊙ d) ps (t .positions) j) (on-slot (λ v d. v ⊞ w ⊙ d) ns (t .normals) j) (on-slot (plusXyz w) ts (t .tangents) j)
 
-  abbrev stationed : Primitive
+  abbrev pub stationed : Primitive
   stationed = vertices (withDeltas _⊞_ ps (stationDeltas (λ (s : Station). s .positions) (t .positions) t w)) (withDeltas _⊞_ ns (stationDeltas (λ (s : Station). s .normals) (t .normals) t w)) (withDeltas (plusXyz w) ts (orElse (t .tangents) []))
 
-  station-is : stationTarget w t (vertices ps ns ts) ≡ stationed
+  pub station-is : stationTarget w t (vertices ps ns ts) ≡ stationed
   unfolding stationTarget stationDeltas
   station-is = go (stations t) refl (stations-sorted t)
     where

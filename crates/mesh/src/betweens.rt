@@ -28,17 +28,31 @@ fn number_of(at: usize, k: usize, room: usize) -> usize
 pub(crate) fn target_at(words: &[u32], h: Header, targets: Part, k: usize) -> TargetRow
     ensures { λ r. ⌜ r ≡ targetRow (now (words .entry)) (h .meshes .targets) (targets .at + k) ⌝ }
 {
-    tables::target_row(words, h.meshes.targets, number_of(targets.at, k, words.len()))
+    tables::target_row(
+        words,
+        h.meshes.targets,
+        number_of(targets.at, k, words.len()),
+    )
 }
 
 fn between_at(words: &[u32], h: Header, betweens: Part, k: usize) -> InBetweenRow
     ensures { λ r. ⌜ r ≡ inBetweenRow (now (words .entry)) (h .meshes .«in_betweens») (betweens .at + k) ⌝ }
 {
-    tables::in_between_row(words, h.meshes.in_betweens, number_of(betweens.at, k, words.len()))
+    tables::in_between_row(
+        words,
+        h.meshes.in_betweens,
+        number_of(betweens.at, k, words.len()),
+    )
 }
 
 // The in-between number k of a part.
-pub(crate) fn station_at(words: &[u32], floats: &[f32], h: Header, betweens: Part, k: usize) -> Station
+pub(crate) fn station_at(
+    words: &[u32],
+    floats: &[f32],
+    h: Header,
+    betweens: Part,
+    k: usize,
+) -> Station
     ensures { λ r. ⌜ r ≡ stationAt (now (words .entry)) (now (floats .entry)) h betweens k ⌝ }
 {
     let row = between_at(words, h, betweens, k);

@@ -1,12 +1,12 @@
+use crate::Blend;
+use crate::Segment;
+use crate::Station;
 use crate::adding::add_between;
 use crate::adding::deltas_in;
 use crate::betweens::is_kept;
 use crate::betweens::station_at;
 use crate::stations::longer;
 use crate::stations::widened;
-use crate::Blend;
-use crate::Segment;
-use crate::Station;
 use animation::Part;
 use tables::Header;
 use tables::Slot;
@@ -101,19 +101,17 @@ fn count_of(floats: &[f32], own: Slot, n: usize) -> usize
 }
 
 // Adds to one attribute what lies between two slots.
-fn add_blended(
-    floats: &[f32],
-    own: Slot,
-    n: usize,
-    t: f32,
-    low: Slot,
-    high: Slot,
-    out: &mut [f32],
-)
+fn add_blended(floats: &[f32], own: Slot, n: usize, t: f32, low: Slot, high: Slot, out: &mut [f32])
     ensures { λ _. ⌜ now (out .exit) ≡ overRows 3 (withDeltas _⊞_ (rowsIn 3 (now (out .entry))) (blendedIn (now (floats .entry)) own n t low high)) (now (out .entry)) ⌝ }
 {
     let count = count_of(floats, own, n);
-    add_between(out, t, deltas_in(floats, low), deltas_in(floats, high), count);
+    add_between(
+        out,
+        t,
+        deltas_in(floats, low),
+        deltas_in(floats, high),
+        count,
+    );
 }
 
 // Adds a target that has stations to positions and normals.
@@ -132,6 +130,22 @@ pub(crate) fn add_stations(
     let low = b.segment.low;
     let high = b.segment.high;
     let t = (w - low.weight) / (high.weight - low.weight);
-    add_blended(floats, row.positions, b.positions, t, low.positions, high.positions, positions);
-    add_blended(floats, row.normals, b.normals, t, low.normals, high.normals, normals);
+    add_blended(
+        floats,
+        row.positions,
+        b.positions,
+        t,
+        low.positions,
+        high.positions,
+        positions,
+    );
+    add_blended(
+        floats,
+        row.normals,
+        b.normals,
+        t,
+        low.normals,
+        high.normals,
+        normals,
+    );
 }

@@ -50,8 +50,18 @@ pub fn morphed(
     let n = wire::least(targets.count, weights.len());
     let mut k = 0;
     while k < n {
-        let row = betweens::target_at(words, h, targets, k);
-        targets::add_target(words, floats, h, row, weights[k], positions, normals, tangents);
+        let w = weights[k];
+        targets::add_numbered(
+            words,
+            floats,
+            h,
+            targets,
+            k,
+            w,
+            positions,
+            normals,
+            tangents,
+        );
         k += 1;
     }
 }

@@ -1,7 +1,7 @@
-use crate::adding::deltas_in;
 use crate::Blend;
 use crate::Segment;
 use crate::Station;
+use crate::adding::deltas_in;
 use tables::Slot;
 ghost use mathlib.Core.Path.{_≡_};
 ghost use Prim.Native.Nat.{_/_, max};

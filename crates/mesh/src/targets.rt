@@ -2,14 +2,18 @@ use crate::adding::add_scaled;
 use crate::adding::add_tangents;
 use crate::adding::deltas_in;
 use crate::betweens::has_valid;
+use crate::betweens::target_at;
 use crate::blending::add_stations;
+use animation::Part;
 use tables::Header;
 use tables::TargetRow;
 ghost use mathlib.Core.Path.{_≡_};
+ghost use Prim.Native.Nat.{_+_};
 ghost use Rattle.model.specs.Lists.{rowsIn};
 ghost use Rattle.model.specs.Vector.{_⊙_, _⊞_};
 ghost use Rattle.model.specs.Morph.{withTarget};
 ghost use Rattle.model.specs.Attributes.{attributesIn, shapeOf, Reshaped};
+ghost use Rattle.tables.specs.Records.{targetRow};
 ghost use Rattle.tables.specs.Decoded.{targetOf};
 ghost use Rattle.mesh.specs.Lent.{lentIn, deltasIn};
 ghost use Rattle.mesh.specs.Added.{Added};
@@ -24,7 +28,7 @@ fn add_plain(floats: &[f32], row: TargetRow, w: f32, positions: &mut [f32], norm
 
 // Adds a target at weight w: nothing at 0, by its stations if an in-between has a valid weight, else w times its deltas. Tangents
 // have no stations.
-pub(crate) fn add_target(
+fn add_target(
     words: &[u32],
     floats: &[f32],
     h: Header,
@@ -45,4 +49,22 @@ pub(crate) fn add_target(
         return;
     }
     add_plain(floats, row, w, positions, normals);
+}
+
+// Adds target number k of a part at weight w.
+pub(crate) fn add_numbered(
+    words: &[u32],
+    floats: &[f32],
+    h: Header,
+    targets: Part,
+    k: usize,
+    w: f32,
+    positions: &mut [f32],
+    normals: &mut [f32],
+    tangents: &mut [f32],
+)
+    ensures { λ _. ⌜ Reshaped (shapeOf (withTarget (attributesIn (now (positions .entry)) (now (normals .entry)) (now (tangents .entry))) (targetOf (lentIn (now (words .entry)) (now (floats .entry)) h) (targetRow (now (words .entry)) (h .meshes .targets) (targets .at + k))) w)) (now (positions .entry)) (now (positions .exit)) (now (normals .entry)) (now (normals .exit)) (now (tangents .entry)) (now (tangents .exit)) ⌝ }
+{
+    let row = target_at(words, h, targets, k);
+    add_target(words, floats, h, row, w, positions, normals, tangents);
 }

@@ -1,70 +1,72 @@
+-- `mesh::morphed` meets its contract. The first k targets are added. Assumes nothing.
+use mathlib.Core.Path.{_≡_, refl, sym, ap, _∙_, subst}
+use Prim.Native.Nat.{ℕ, _+_, _-_, _≤_, min}
+use native.Mathlib.Omega.{arith}
+use borrow.Author.Needs.{needs}
+use denote.Ref.{now}
+use lib.Ieee.{nan}
+use lib.ListN.{length, getD, take}
+use Rattle.model.specs.Scene.{Target, Primitive}
+use Rattle.model.specs.Morph.{withTarget, withTargets}
+use Rattle.model.specs.Attributes.{attributesIn, shapeOf, Reshaped}
+use Rattle.model.proofs.ListLaws.{length-tabulate, getD-tabulate}
+use Rattle.tables.specs.Records.{targetRow}
+use Rattle.tables.specs.Decoded.{targetOf}
+use Rattle.mesh.specs.Lent.{lentIn, targetsIn}
+use Rattle.mesh.proofs.Sizes.{lent-rows}
+use Rattle.mesh.proofs.Morphing.{Morphed, more-targets, all-targets, morphed-start, morphed-more, morphed-end}
 use Rattle.mesh.proofs.morphed.Statement.{statement}
 use Rattle.mesh.proofs.morphed.Tie as tie
-use Rattle.mesh.proofs.morphed.Reads as reads
-use Rattle.mesh.proofs.morphed.Lts as lts
-use Rattle.mesh.proofs.betweens.target_at.Reads as target-at-reads
-use Rattle.mesh.proofs.targets.add_target.Reads as add-target-reads
-use Rattle.wire.proofs.least.Reads as least-reads
 
 abbrev Inv-loop : tie.InvT-loop
 Inv-loop words floats h targets weights positions₀ normals₀ tangents₀ n k₀ positions normals tangents k =
-    ?
+    (k ≤ n)
+    × (length positions ≡ length positions₀)
+    × (length normals ≡ length normals₀)
+    × (length tangents ≡ length tangents₀)
+    × Morphed (withTargets (take k (targetsIn words floats h targets)) (take k weights) (attributesIn positions₀ normals₀ tangents₀)) positions₀ positions normals₀ normals tangents₀ tangents
 
 abbrev μ-loop : tie.MeasureT-loop
-μ-loop words floats h targets weights positions₀ normals₀ tangents₀ n k₀ positions normals tangents k =
-    ?
+μ-loop words floats h targets weights positions₀ normals₀ tangents₀ n k₀ positions normals tangents k = n - k
 
--- src/lib.rt:50:9
-least-requires : tie.Need-least-requires Inv-loop μ-loop
-least-requires c κs = ?
-
--- src/lib.rt:52:5
 loop-holds : tie.Need-loop-holds Inv-loop μ-loop
-loop-holds c = ?
+unfolding withTargets
+loop-holds c = let a = c .before .before .before .before .before .before .before .args in (omega arith, refl, refl, refl, morphed-start (now (a .positions)) (now (a .normals)) (now (a .tangents)))
 
--- src/lib.rt:53:13
-target-at-requires : tie.Need-target-at-requires Inv-loop μ-loop
-target-at-requires c κs = ?
-
--- src/lib.rt:54:52
-mul-add-target : tie.Need-mul-add-target Inv-loop μ-loop
-mul-add-target c = ?
-
--- src/lib.rt:54:52
-shared-slice-read-add-target : tie.Need-shared-slice-read-add-target Inv-loop μ-loop
-shared-slice-read-add-target c = ?
-
--- src/lib.rt:54:9
-add-target-requires : tie.Need-add-target-requires Inv-loop μ-loop
-add-target-requires c κs = ?
-
--- src/lib.rt:55:9
-add-k : tie.Need-add-k Inv-loop μ-loop
-add-k c = ?
-
--- src/lib.rt:52:5
-loop-less : tie.Need-loop-less Inv-loop μ-loop
-loop-less c = ?
-
--- src/lib.rt:52:5
 loop-again : tie.Need-loop-again Inv-loop μ-loop
-loop-again c = ?
+loop-again c =
+    let a = c .before .before .before .before .before .before .before .before .before .before .before .before .before .before .before .before .before .before .before .before .args in
+    let l = c .before .before .before .before .before .before .before .before .before .before .before .before .loop in
+    let left = c .before .before .before .before .before .before .add-numbered .last in
+    let m = c .before .before .before .before .before .before .before .before .before .before .before .before .before .least .ensures in
+    let lent = attributesIn (now (a .positions)) (now (a .normals)) (now (a .tangents)) in
+    let ts = targetsIn (now (a .words)) (now (a .floats)) (a .h) (a .targets) in
+    let t : ℕ → Target = λ k. targetOf (lentIn (now (a .words)) (now (a .floats)) (a .h)) (targetRow (now (a .words)) (a .h .meshes .targets) (a .targets .at + k)) in
+    let w = getD (now (a .weights)) (l .k) nan in
+    let n : length ts ≡ a .targets .count = length-tabulate (a .targets .count) t in
+    let p = withTargets (take (l .k) ts) (take (l .k) (now (a .weights))) lent in
+    let e : withTarget p (t (l .k)) w ≡ withTargets (take (l .k + 1) ts) (take (l .k + 1) (now (a .weights))) lent
+    = ap (λ (x : Target). withTarget p x w) (sym (getD-tabulate (a .targets .count) t (l .k) (t 0) (omega arith))) ∙ sym (more-targets (t 0) nan ts (now (a .weights)) (l .k) lent (omega arith) (omega arith)) in (
+      omega arith,
+      search needs,
+      search needs,
+      search needs,
+      subst (λ (q : Primitive). Morphed q (now (a .positions)) (left .1 .1 .1 .1 .1 .1 .0) (now (a .normals)) (left .1 .1 .1 .1 .1 .1 .1 .0) (now (a .tangents)) (left .1 .1 .1 .1 .1 .1 .1 .1 .0)) e
+          (morphed-more p (now (a .positions)) (l .positions) (left .1 .1 .1 .1 .1 .1 .0) (now (a .normals)) (l .normals) (left .1 .1 .1 .1 .1 .1 .1 .0) (now (a .tangents)) (l .tangents) (left .1 .1 .1 .1 .1 .1 .1 .1 .0) (t (l .k)) w
+          (lent-rows (lentIn (now (a .words)) (now (a .floats)) (a .h)) (targetRow (now (a .words)) (a .h .meshes .targets) (a .targets .at + l .k))) (l .inv .4) (c .before .before .before .before .before .before .add-numbered .ensures)),
+    )
 
--- src/lib.rt:38:1
-same-length : tie.Need-same-length Inv-loop μ-loop
-same-length c = ?
-
--- src/lib.rt:38:1
-same-length-2 : tie.Need-same-length-2 Inv-loop μ-loop
-same-length-2 c = ?
-
--- src/lib.rt:38:1
-same-length-3 : tie.Need-same-length-3 Inv-loop μ-loop
-same-length-3 c = ?
-
--- src/lib.rt:38:1
 returns : tie.Need-returns Inv-loop μ-loop
-returns c = ?
+returns c =
+    let a = c .before .before .before .before .before .before .before .before .before .args in
+    let l = c .before .loop in
+    let m = c .before .before .least .ensures in
+    let lent = attributesIn (now (a .positions)) (now (a .normals)) (now (a .tangents)) in
+    let ts = targetsIn (now (a .words)) (now (a .floats)) (a .h) (a .targets) in
+    let n : length ts ≡ a .targets .count = length-tabulate (a .targets .count) _ in
+    subst (λ (q : Primitive). Reshaped (shapeOf q) (now (a .positions)) (l .positions) (now (a .normals)) (l .normals) (now (a .tangents)) (l .tangents))
+    (all-targets ts (now (a .weights)) (l .k) lent (omega arith))
+    (morphed-end _ (now (a .positions)) (l .positions) (now (a .normals)) (l .normals) (now (a .tangents)) (l .tangents) (l .inv .4))
 
 pub morphed-spec : {M : Type 1} → statement M
 morphed-spec =
@@ -72,16 +74,15 @@ morphed-spec =
     (tie.spec
     Inv-loop
     μ-loop
-    least-requires
+    (λ c κs. search needs)
     loop-holds
-    target-at-requires
-    mul-add-target
-    shared-slice-read-add-target
-    add-target-requires
-    add-k
-    loop-less
+    (λ c. search needs)
+    (λ c. search needs)
+    (λ c κs. search needs)
+    (λ c. search needs)
+    (λ c. search needs)
     loop-again
-    same-length
-    same-length-2
-    same-length-3
+    (λ c. search needs)
+    (λ c. search needs)
+    (λ c. search needs)
     returns)

@@ -37,8 +37,8 @@ loop-again c =
     let n = length-tabulate (a .betweens .count) at in (
       omega arith,
       c .widened-at .ensures
-      ∙ (λ j. f (l .inv .1 j) (sym (getD-tabulate (a .betweens .count) at (l .k) (at 0) (omega arith)) j))
-      ∙ sym (foldl-more f (a .start) list (l .k) (at 0) (omega arith)),
+          ∙ (λ j. f (l .inv .1 j) (sym (getD-tabulate (a .betweens .count) at (l .k) (at 0) (omega arith)) j))
+          ∙ sym (foldl-more f (a .start) list (l .k) (at 0) (omega arith)),
     )
 
 returns : tie.Need-returns Inv-loop μ-loop
