@@ -1,26 +1,23 @@
 -- The loops that add deltas: what a turn does, and what all turns come to. Assumes nothing.
 use mathlib.Core.Path.{_≡_, refl, sym, ap, _∙_}
-use mathlib.Core.Bool.{Bool, true, false}
-use mathlib.Core.List.{List, [], _∷_, _++_, map, zipWith, append-assoc}
-use Prim.Native.Nat.{ℕ, zero, suc, _+_, _*_, _/_, _≤_, _<_, min}
-use native.Mathlib.Nat.{suc-mul, mul-le-mul-right, div-mul-le-self}
-use native.Mathlib.Numerals.{add-one}
+use mathlib.Core.Bool.{Bool}
+use mathlib.Core.List.{List, [], _∷_, _++_, zipWith, append-assoc}
+use Prim.Native.Nat.{ℕ, suc, _+_, _*_, _/_, _≤_, _<_, min}
 use native.Mathlib.Decide.{decLt}
 use native.Mathlib.Omega.{arith}
 use borrow.Author.Tests.{lt-ltb, le-ltb}
 use lib.Dec.{ltb}
 use lib.Ieee.{Float, nan}
-use lib.ListN.{length, getD, take, drop, set, length-set, List·getD-eq-default}
-use lib.Seq.{paste, sets, sets-eq, drop-cons, getD-take, getD-drop}
+use lib.ListN.{length, getD, take, drop, set, List·getD-eq-default}
+use lib.Seq.{paste, sets-eq, drop-cons, getD-take, getD-drop}
 use Rattle.float.specs.F32.{_⊕_, _⊖_, _⊗_, zero32}
-use Rattle.model.specs.Lists.{pick, joined, tabulate, part, row, rowsIn}
+use Rattle.model.specs.Lists.{pick, joined, tabulate, row, rowsIn}
 use Rattle.model.specs.Vector.{Vector, _⊙_, _⊞_}
 use Rattle.model.specs.Morph.{withDeltas}
 use Rattle.model.specs.Attributes.{overRows}
-use Rattle.model.proofs.ListLaws.{length-tabulate, getD-tabulate}
+use Rattle.model.proofs.ListLaws.{getD-tabulate}
 use Rattle.model.proofs.Rowwise.{upTo, none-done, row-done, next-row, length-kept, tabulate-alike, row-ends, row-count}
 use Rattle.mesh.specs.Mixed.{rowOrZeros, mixedIn}
-use Rattle.mesh.proofs.Floatwise as floatwise
 use Rattle.mesh.proofs.Floatwise.{doneTo, part-tabulated, by-rows}
 use Rattle.mesh.proofs.DeltaLaws.{deltas-by-rows}
 

@@ -1,23 +1,27 @@
 -- In-betweens read one by one: those past the words are blank, and tests and counts of the first k. Assumes nothing.
 use mathlib.Core.Path.{_≡_, refl, sym, ap, _∙_}
-use mathlib.Core.Bool.{Bool, true, false, _||_, or-true, or-false}
+use mathlib.Core.Bool.{Bool, true, false, not, _&&_, _||_, or-true}
 use mathlib.Core.List.{List, [], _∷_, _++_}
 use mathlib.Core.Option.{none}
 use Prim.Native.Nat.{ℕ, zero, suc, _+_, _*_, _≤_, _<_, min}
 use native.Mathlib.Numerals.{add-one}
 use native.Mathlib.Decide.{decLt}
 use native.Mathlib.Omega.{arith}
-use lib.Ieee.{Float}
+use lib.Ieee.{Float, eq, isNan}
+use lib.Ieee.Scale.{finite}
 use lib.ListN.{length, getD, take, length-append, List·getD-eq-default}
 use lib.Seq.{take-suc}
 use Rattle.model.specs.Lists.{pick, keep, anyOf}
 use Rattle.animation.specs.declared.Part.{Part}
 use Rattle.float.specs.F32.{zero32}
 use Rattle.model.specs.Scene.{InBetween}
+use Rattle.model.specs.Morph.{valid}
+use Rattle.model.proofs.Tests.{both}
 use Rattle.model.proofs.ListLaws.{length-tabulate, getD-tabulate}
 use Rattle.tables.specs.declared.Header.{Header}
 use Rattle.tables.specs.Records.{wordOf, targetRow, inBetweenRow}
-use Rattle.mesh.specs.Stations.{betweensIn, stationAt}
+use Rattle.mesh.specs.Stations.{betweensIn, stationAt, keptIn}
+use Rattle.mesh.proofs.Rising.{finite-number}
 
 -- ---- a record past the words
 module _ (words : List ℕ) (t : Part) (stride i : ℕ) (wide : i ≤ i * stride) (whole : length words ≤ length words * stride) where
@@ -98,6 +102,13 @@ module _ {A : Type 0} (p : A → Bool) where
       last : (b : Bool) → length (keep p (take k l)) + length (pick b (getD l k d ∷ []) []) ≡ length (keep p (take k l)) + pick b 1 0
       last true = refl
       last false = refl
+
+-- what is kept is no NaN
+pub kept-number : (all : List InBetween) (x : Float) → keptIn all x ≡ true → isNan x ≡ false
+kept-number all x h =
+    let v = both (valid x) _ h .0 in
+    let f = both (finite x && not (eq x zero32)) _ v .0 in
+    finite-number x (both (finite x) _ f .0)
 
 -- ---- the in-betweens that a part names
 abbrev pub unread : InBetween

@@ -1,20 +1,19 @@
 -- Deltas added to the rows of a flat slice. Assumes nothing.
 use mathlib.Core.Path.{_≡_, refl, sym, ap, _∙_}
-use mathlib.Core.List.{List, [], _∷_, _++_, zipWith, append-assoc, append-nil}
-use Prim.Native.Nat.{ℕ, zero, suc, _+_, _-_, _*_, _/_, _≤_, _<_, min}
-use native.Mathlib.Nat.{suc-mul, div-mul-le-self, mul-le-mul-right, zero-mul}
-use native.Mathlib.Decide.{decLt}
+use mathlib.Core.List.{List, [], _∷_, _++_, zipWith, append-assoc}
+use Prim.Native.Nat.{ℕ, zero, suc, _+_, _-_, _*_, _/_, _≤_, min}
+use native.Mathlib.Nat.{suc-mul, div-mul-le-self, zero-mul}
 use native.Mathlib.Omega.{arith}
 use lib.Ieee.{Float, nan}
-use lib.ListN.{length, getD, take, drop, take-append-drop}
+use lib.ListN.{length, getD, drop, take-append-drop}
 use lib.Seq.{drop-append-add}
 use Rattle.model.specs.Lists.{joined, tabulate, row, rowsIn}
 use Rattle.model.specs.Vector.{Vector}
 use Rattle.model.specs.Morph.{withDeltas}
 use Rattle.model.specs.Attributes.{overRows}
 use Rattle.model.proofs.ListLaws.{length-tabulate}
-use Rattle.model.proofs.RowLaws.{flat, Rows, flat-length}
-use Rattle.model.proofs.Rowwise.{upTo, tabulate-alike, row-ends, rows-in, row-count}
+use Rattle.model.proofs.RowLaws.{flat, Rows}
+use Rattle.model.proofs.Rowwise.{upTo, tabulate-alike, row-ends, rows-in}
 use Rattle.mesh.proofs.Floatwise.{part-tabulated, doneTo, by-rows}
 
 -- ---- deltas of a list

@@ -1,11 +1,11 @@
 -- A flat slice that is changed float by float, and what that makes of its rows. Assumes nothing.
 use mathlib.Core.Path.{_≡_, refl, sym, ap, _∙_}
 use mathlib.Core.List.{List, [], _∷_, _++_, append-assoc}
-use Prim.Native.Nat.{ℕ, zero, suc, _+_, _*_, _/_, _≤_, _<_}
+use Prim.Native.Nat.{ℕ, zero, suc, _+_, _*_, _≤_, _<_}
 use native.Mathlib.Nat.{suc-mul}
 use native.Mathlib.Numerals.{add-one}
 use native.Mathlib.Omega.{arith}
-use lib.ListN.{length, getD, take, drop, set, length-append, length-take, length-drop}
+use lib.ListN.{length, getD, drop, set, length-take, length-drop}
 use lib.Seq.{drop-cons, set-at, getD-at, getD-take, getD-drop}
 use Rattle.model.specs.Lists.{joined, tabulate, part, row}
 use Rattle.model.proofs.ListLaws.{length-tabulate}

@@ -1,9 +1,13 @@
 -- The segment of a weight among stations, found without sorting: a station that is inserted moves at most one end. Assumes nothing.
-use mathlib.Core.Path.{_≡_, refl, sym, ap, _∙_}
+use mathlib.Core.Path.{_≡_, refl, sym, _∙_}
 use mathlib.Core.Bool.{Bool, true, false, true≢false}
 use mathlib.Core.List.{List, [], _∷_}
-use lib.Ieee.{Float, lt, le, isNan}
-use Rattle.model.specs.Lists.{pick}
+use mathlib.Core.Option.{Option, none}
+use lib.Ieee.{Float, lt, le, isNan, ofBits, ofFields}
+use Rattle.float.specs.F32.{zero32, one32}
+use Rattle.model.specs.Lists.{pick, foldl}
+use Rattle.model.specs.Vector.{Vector}
+use Rattle.model.specs.Scene.{InBetween}
 use Rattle.model.specs.Agree.{Each}
 use Rattle.model.specs.Morph.{Station, Segment, inserted, segmentFrom}
 use Rattle.mesh.specs.Stations.{segmentOf}
@@ -18,6 +22,10 @@ narrowedTo w g s =
     (pick (le w (s .weight)) (record { low = g .low; high = s }) (record { low = s; high = g .high }))
     (pick (le w (g .high .weight)) g (record { low = g .high; high = s })))
 
+-- in-betweens inserted one after the other
+abbrev pub insertedAll : List Station → List InBetween → List Station
+insertedAll l bs = foldl (λ (l : List Station) (b : InBetween). inserted (record { weight = b .weight; positions = b .positions; normals = b .normals }) l) l bs
+
 -- ---- rising lists
 abbrev RisingFrom : Float → List Station → Type 0
 RisingFrom x [] = Unit {0}
@@ -31,6 +39,11 @@ abbrev pub Sorted : List Station → Type 0
 Sorted [] = ⊥
 Sorted (a ∷ []) = ⊥
 Sorted (a ∷ b ∷ rest) = RisingFrom (a .weight) (b ∷ rest) × Each Number (a ∷ b ∷ rest)
+
+-- 0 and 1
+pub first-sorted : (positions normals : Option (List Vector)) → Sorted (record { weight = zero32; positions = none; normals = none } ∷ record { weight = one32; positions = positions; normals = normals } ∷ [])
+unfolding lt isNan ofBits ofFields
+first-sorted positions normals = ((below-of-lt zero32 one32 refl, tt), (refl, (refl, tt)))
 
 -- ---- an inserted station
 module _ (s : Station) (number : Number s) where

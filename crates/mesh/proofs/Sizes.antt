@@ -1,13 +1,13 @@
 -- Morphed vertices are as many and as wide as they were. Assumes nothing.
-use mathlib.Core.Path.{_≡_, refl, sym, ap, _∙_}
+use mathlib.Core.Path.{_≡_, refl, ap, _∙_}
 use mathlib.Core.Bool.{Bool, true, false}
-use mathlib.Core.List.{List, [], _∷_, _++_, map, zipWith}
+use mathlib.Core.List.{List, [], _∷_, map, zipWith}
 use mathlib.Core.Option.{Option, none, some}
-use Prim.Native.Nat.{ℕ, zero, suc, _+_, _/_, max}
+use Prim.Native.Nat.{ℕ, zero, suc, _+_}
 use native.Mathlib.Omega.{arith}
 use lib.Ieee.{Float, lt, le, eq}
 use lib.ListN.{length, getD, take, drop, length-append, length-take, length-drop, length-map}
-use Rattle.float.specs.F32.{_⊕_, _⊖_, _⊗_, _⊘_, zero32, one32}
+use Rattle.float.specs.F32.{_⊕_, _⊖_, _⊗_, _⊘_, zero32}
 use Rattle.model.specs.Lists.{pick, foldl, keep, anyOf, tabulate, rowsIn, orElse, mapSome}
 use Rattle.model.specs.Vector.{Vector, _⊙_, _⊞_}
 use Rattle.model.specs.Scene.{InBetween, Target, Primitive}
@@ -23,8 +23,7 @@ use Rattle.tables.specs.declared.TargetRow.{TargetRow}
 use Rattle.tables.specs.Records.{inBetweenRow}
 use Rattle.tables.specs.Decoded.{Lent, spanIn, slotIn, recordsIn, inBetweenOf, targetOf}
 use Rattle.tables.specs.Tags.{isMarked}
-use Rattle.mesh.specs.Stations.{keptIn}
-use Rattle.mesh.proofs.Segments.{Sorted}
+use Rattle.mesh.proofs.Segments.{insertedAll, Sorted}
 use Rattle.mesh.proofs.SlotLaws.{entryOf, longer}
 use Rattle.mesh.proofs.TargetLaws.{onSlot, plusXyz, stations-sorted}
 
@@ -103,15 +102,12 @@ inserted-rows s (t ∷ l) h (a, k) = go (lt (s .weight) (t .weight)) (inserted-r
     go true f = (h, (a, k))
     go false f = (a, f)
 
-all-rows : (p : InBetween → Bool) (bs : List InBetween) (l : List Station) → Each BetweenRows bs → Each StationRows l
-    → Each StationRows (foldl (λ (l : List Station) (b : InBetween). inserted (record { weight = b .weight; positions = b .positions; normals = b .normals }) l) l (keep p bs))
+all-rows : (p : InBetween → Bool) (bs : List InBetween) (l : List Station) → Each BetweenRows bs → Each StationRows l → Each StationRows (insertedAll l (keep p bs))
 unfolding foldl keep
 all-rows p [] l h k = k
 all-rows p (x ∷ bs) l (a, h) k = go (p x) (λ m s. all-rows p bs m h s)
   where
-    go : (b : Bool)
-        → ((m : List Station) → Each StationRows m → Each StationRows (foldl (λ (l : List Station) (b : InBetween). inserted (record { weight = b .weight; positions = b .positions; normals = b .normals }) l) m (keep p bs)))
-        → Each StationRows (foldl (λ (l : List Station) (b : InBetween). inserted (record { weight = b .weight; positions = b .positions; normals = b .normals }) l) l (pick b (x ∷ keep p bs) (keep p bs)))
+    go : (b : Bool) → ((m : List Station) → Each StationRows m → Each StationRows (insertedAll m (keep p bs))) → Each StationRows (insertedAll l (pick b (x ∷ keep p bs) (keep p bs)))
     go true f = f _ (inserted-rows (record { weight = x .weight; positions = x .positions; normals = x .normals }) l (record { positions = a .positions; normals = a .normals }) k)
     go false f = f l k
 

@@ -3,7 +3,7 @@ use mathlib.Core.Path.{_≡_, refl, sym, ap, _∙_}
 use mathlib.Core.Bool.{Bool, true, false}
 use mathlib.Core.List.{List, [], _∷_, map, zipWith}
 use mathlib.Core.Option.{Option, none, some}
-use Prim.Native.Nat.{ℕ, zero, suc, _/_, max}
+use Prim.Native.Nat.{ℕ, _/_, max}
 use native.Mathlib.Omega.{arith}
 use lib.Ieee.{Float, lt}
 use lib.ListN.{length, getD}

@@ -1,20 +1,16 @@
 -- What is kept of the stations while in-betweens are met one by one is what the whole sorted list gives. Assumes nothing.
 use mathlib.Core.Path.{_≡_, refl, sym, ap, _∙_, subst}
-use mathlib.Core.Bool.{Bool, true, false, not, _&&_}
+use mathlib.Core.Bool.{Bool, true, false}
 use mathlib.Core.List.{List, [], _∷_}
 use mathlib.Core.Option.{none}
-use Prim.Native.Nat.{ℕ, zero, suc, _+_, _/_, max}
+use Prim.Native.Nat.{ℕ, zero, suc, _/_, max}
 use native.Mathlib.Omega.{arith}
-use lib.Dec.{eqb}
-use lib.Ieee.{Float, lt, le, eq, isNan, ofBits, ofFields}
-use lib.Ieee.Scale.{finite}
+use lib.Ieee.{Float, lt, le}
 use lib.ListN.{length}
 use Rattle.float.specs.F32.{zero32, one32}
 use Rattle.model.specs.Lists.{pick, foldl, keep, tabulate, orElse}
-use Rattle.model.specs.Agree.{Each}
 use Rattle.model.specs.Scene.{InBetween, Target}
 use Rattle.model.specs.Morph as morph
-use Rattle.model.proofs.Tests.{both}
 use Rattle.tables.specs.declared.Header.{Header}
 use Rattle.tables.specs.declared.Slot.{Slot}
 use Rattle.tables.specs.declared.TargetRow.{TargetRow}
@@ -25,9 +21,9 @@ use Rattle.mesh.specs.declared.Blend.{Blend}
 use Rattle.mesh.specs.Lent.{lentIn, deltasIn}
 use Rattle.mesh.specs.Blended.{partOfWay, blendedIn}
 use Rattle.mesh.specs.Added.{stationDeltas}
-use Rattle.mesh.specs.Stations.{segmentOf, longestOf, stationFor, segmentFor, Blends, narrowedIn, widenedIn, betweensIn, stationAt, stationsIn, keptIn, widenedBy}
-use Rattle.mesh.proofs.Rising.{finite-number, below-of-lt}
-use Rattle.mesh.proofs.Segments.{narrowedTo, Number, Sorted, inserted-sorted, segment-inserted}
+use Rattle.mesh.specs.Stations.{longestOf, stationFor, segmentFor, Blends, narrowedIn, widenedIn, betweensIn, stationAt, stationsIn, keptIn, widenedBy}
+use Rattle.mesh.proofs.Segments.{narrowedTo, insertedAll, Sorted, first-sorted, inserted-sorted, segment-inserted}
+use Rattle.mesh.proofs.BetweenLaws.{kept-number}
 use Rattle.mesh.proofs.SlotLaws.{slot-count, longest-inserted, deltas-between}
 
 -- the in-between that a station was read from
@@ -59,15 +55,6 @@ module _ (floats : List Float) (w : Float) where
     normals = (λ j. max (sym (slot-count floats (s .normals)) j) (h .normals j)) ∙ sym (longest-inserted (λ (t : morph.Station). t .normals) (stationFor floats s) l);
   }
 
-  kept-number : (all : List InBetween) (s : Station) → keptIn all (s .weight) ≡ true → Number (stationFor floats s)
-  kept-number all s h =
-      let v = both (morph.valid (s .weight)) _ h .0 in
-      let f = both (finite (s .weight) && not (eq (s .weight) zero32)) _ v .0 in
-      finite-number (s .weight) (both (finite (s .weight)) _ f .0)
-
-  abbrev insertedAll : List morph.Station → List InBetween → List morph.Station
-  insertedAll l bs = foldl (λ (l : List morph.Station) (b : InBetween). morph.inserted (record { weight = b .weight; positions = b .positions; normals = b .normals }) l) l bs
-
   -- all of them
   pub blends-all : (all : List InBetween) (n : ℕ) (g : ℕ → Station) (l : List morph.Station) (b : Blend) → Sorted l → Blends floats l w b
       → Blends floats (insertedAll l (keep (λ (c : InBetween). keptIn all (c .weight)) (tabulate n (λ k. betweenFor floats (g k))))) w (foldl (widenedBy floats w all) b (tabulate n g))
@@ -79,16 +66,12 @@ module _ (floats : List Float) (w : Float) where
       go : (p : Bool) → keptIn all (g 0 .weight) ≡ p
           → ((m : List morph.Station) (c : Blend) → Sorted m → Blends floats m w c → Blends floats (insertedAll m (keep (λ (c : InBetween). keptIn all (c .weight)) (tabulate n (λ k. betweenFor floats (g (suc k)))))) w (foldl (widenedBy floats w all) c (tabulate n (λ i. g (suc i)))))
           → Blends floats (insertedAll l (pick p (betweenFor floats (g 0) ∷ keep (λ (c : InBetween). keptIn all (c .weight)) (tabulate n (λ k. betweenFor floats (g (suc k))))) (keep (λ (c : InBetween). keptIn all (c .weight)) (tabulate n (λ k. betweenFor floats (g (suc k))))))) w (foldl (widenedBy floats w all) (pick p (widenedIn floats w b (g 0)) b) (tabulate n (λ i. g (suc i))))
-      go true e f = f (morph.inserted (stationFor floats (g 0)) l) (widenedIn floats w b (g 0)) (inserted-sorted (stationFor floats (g 0)) (kept-number all (g 0) e) l sorted) (blends-more l b (g 0) sorted h)
+      go true e f = f (morph.inserted (stationFor floats (g 0)) l) (widenedIn floats w b (g 0)) (inserted-sorted (stationFor floats (g 0)) (kept-number all (g 0 .weight) e) l sorted) (blends-more l b (g 0) sorted h)
       go false e f = f l b sorted h
 
 -- ---- 0 and 1
-abbrev pub firstOf : List Float → Slot → Slot → List morph.Station
+abbrev firstOf : List Float → Slot → Slot → List morph.Station
 firstOf floats positions normals = record { weight = zero32; positions = none; normals = none } ∷ record { weight = one32; positions = slotIn floats positions 3; normals = slotIn floats normals 3 } ∷ []
-
-first-sorted : (floats : List Float) (positions normals : Slot) → Sorted (firstOf floats positions normals)
-unfolding lt isNan ofBits ofFields
-first-sorted floats positions normals = ((below-of-lt zero32 one32 refl, tt), (refl, (refl, tt)))
 
 -- ---- a target as it is lent
 module _ (words : List ℕ) (floats : List Float) (h : Header) (row : TargetRow) (w : Float) (p n : ℕ) where
@@ -116,7 +99,7 @@ module _ (words : List ℕ) (floats : List Float) (h : Header) (row : TargetRow)
         normals = omega (arith, slot-count floats (row .normals));
       } in
       subst (λ (x : Blend). Blends floats (morph.stations (targetOf (lentIn words floats h) row)) w x) (sym e)
-      (blends-all floats w (betweensIn words floats h (row .«in_betweens»)) (row .«in_betweens» .count) (stationAt words floats h (row .«in_betweens»)) (firstOf floats (row .positions) (row .normals)) startOf (first-sorted floats (row .positions) (row .normals)) start)
+      (blends-all floats w (betweensIn words floats h (row .«in_betweens»)) (row .«in_betweens» .count) (stationAt words floats h (row .«in_betweens»)) (firstOf floats (row .positions) (row .normals)) startOf (first-sorted (slotIn floats (row .positions) 3) (slotIn floats (row .normals) 3)) start)
 
 -- ---- the deltas of an attribute
 module _ (floats : List Float) (t : Target) (own : Slot) (w : Float) (b : Blend) (h : Blends floats (morph.stations t) w b) where

@@ -1,22 +1,20 @@
 -- A target added to vertices that lie in flat slices. Assumes nothing.
-use mathlib.Core.Path.{_≡_, refl, sym, ap, _∙_, subst}
-use mathlib.Core.Bool.{Bool, true, false, not, _&&_}
+use mathlib.Core.Path.{_≡_, refl, sym, _∙_, subst}
+use mathlib.Core.Bool.{Bool, true, false}
 use mathlib.Core.List.{List, [], _∷_, _++_}
 use mathlib.Core.Option.{Option, none, some}
-use lib.Ieee.{Float, lt, eq, isNan, ofBits, ofFields}
-use lib.Ieee.Scale.{finite}
+use lib.Ieee.{Float, eq}
 use lib.ListN.{take, drop}
-use Rattle.float.specs.F32.{zero32, one32}
+use Rattle.float.specs.F32.{zero32}
 use Rattle.model.specs.Lists.{pick, foldl, keep, anyOf, rowsIn, orElse}
 use Rattle.model.specs.Vector.{Vector, _⊙_, _⊞_}
 use Rattle.model.specs.Scene.{InBetween, Target, Primitive}
-use Rattle.model.specs.Morph.{Station, withDeltas, valid, inserted, stations, segmentFrom, between, plainTarget, stationTarget, withTarget}
+use Rattle.model.specs.Morph.{Station, withDeltas, valid, stations, segmentFrom, between, plainTarget, stationTarget, withTarget}
 use Rattle.model.specs.Attributes.{attributesIn, shapeOf, overRows, Reshaped}
-use Rattle.model.proofs.Tests.{both}
 use Rattle.mesh.specs.Stations.{keptIn}
 use Rattle.mesh.specs.Added.{Added, stationDeltas}
-use Rattle.mesh.proofs.Rising.{finite-number, below-of-lt}
-use Rattle.mesh.proofs.Segments.{Sorted, inserted-sorted}
+use Rattle.mesh.proofs.Segments.{insertedAll, Sorted, first-sorted, inserted-sorted}
+use Rattle.mesh.proofs.BetweenLaws.{kept-number}
 use Rattle.mesh.proofs.DeltaLaws.{no-deltas, over-own}
 
 -- as `Morph` has it
@@ -37,27 +35,20 @@ abbrev pub vertices : List Vector → List Vector → List Vector → Primitive
 vertices ps ns ts = record { positions = ps; normals = some ns; tangents = some ts; joints = none; weights = none; targets = [] }
 
 -- ---- the stations of any target
-sorted-all : (all bs : List InBetween) (l : List Station) → Sorted l
-    → Sorted (foldl (λ (l : List Station) (b : InBetween). inserted (record { weight = b .weight; positions = b .positions; normals = b .normals }) l) l (keep (λ (b : InBetween). keptIn all (b .weight)) bs))
+sorted-all : (all bs : List InBetween) (l : List Station) → Sorted l → Sorted (insertedAll l (keep (λ (b : InBetween). keptIn all (b .weight)) bs))
 unfolding foldl keep
 sorted-all all [] l h = h
 sorted-all all (x ∷ bs) l h = go (keptIn all (x .weight)) refl (λ m k. sorted-all all bs m k)
   where
-    number : keptIn all (x .weight) ≡ true → isNan (x .weight) ≡ false
-    number e =
-        let v = both (valid (x .weight)) _ e .0 in
-        let f = both (finite (x .weight) && not (eq (x .weight) zero32)) _ v .0 in
-        finite-number (x .weight) (both (finite (x .weight)) _ f .0)
-
     go : (p : Bool) → keptIn all (x .weight) ≡ p
-        → ((m : List Station) → Sorted m → Sorted (foldl (λ (l : List Station) (b : InBetween). inserted (record { weight = b .weight; positions = b .positions; normals = b .normals }) l) m (keep (λ (b : InBetween). keptIn all (b .weight)) bs)))
-        → Sorted (foldl (λ (l : List Station) (b : InBetween). inserted (record { weight = b .weight; positions = b .positions; normals = b .normals }) l) l (pick p (x ∷ keep (λ (b : InBetween). keptIn all (b .weight)) bs) (keep (λ (b : InBetween). keptIn all (b .weight)) bs)))
-    go true e f = f _ (inserted-sorted (record { weight = x .weight; positions = x .positions; normals = x .normals }) (number e) l h)
+        → ((m : List Station) → Sorted m → Sorted (insertedAll m (keep (λ (b : InBetween). keptIn all (b .weight)) bs)))
+        → Sorted (insertedAll l (pick p (x ∷ keep (λ (b : InBetween). keptIn all (b .weight)) bs) (keep (λ (b : InBetween). keptIn all (b .weight)) bs)))
+    go true e f = f _ (inserted-sorted (record { weight = x .weight; positions = x .positions; normals = x .normals }) (kept-number all (x .weight) e) l h)
     go false e f = f l h
 
 pub stations-sorted : (t : Target) → Sorted (stations t)
-unfolding stations lt isNan ofBits ofFields
-stations-sorted t = sorted-all (t .inBetweens) (t .inBetweens) _ ((below-of-lt zero32 one32 refl, tt), (refl, (refl, tt)))
+unfolding stations
+stations-sorted t = sorted-all (t .inBetweens) (t .inBetweens) _ (first-sorted (t .positions) (t .normals))
 
 -- ---- what a target makes of vertices
 module _ (w : Float) (t : Target) (ps ns ts : List Vector) where

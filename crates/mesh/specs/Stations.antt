@@ -14,7 +14,6 @@ use Rattle.model.specs.Scene.{InBetween}
 use Rattle.model.specs.Morph as morph
 use Rattle.animation.specs.declared.Part.{Part}
 use Rattle.tables.specs.declared.Header.{Header}
-use Rattle.tables.specs.declared.InBetweenRow.{InBetweenRow}
 use Rattle.tables.specs.Records.{inBetweenRow}
 use Rattle.tables.specs.Decoded.{slotIn, inBetweenOf, recordsIn}
 use Rattle.mesh.specs.declared.Station.{Station}

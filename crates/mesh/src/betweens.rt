@@ -5,7 +5,6 @@ use tables::InBetweenRow;
 use tables::TargetRow;
 ghost use mathlib.Core.Path.{_≡_};
 ghost use Prim.Native.Nat.{_+_, min};
-ghost use lib.Ieee.{eq};
 ghost use Rattle.model.specs.Lists.{anyOf};
 ghost use Rattle.model.specs.Scene.{InBetween};
 ghost use Rattle.model.specs.Morph.{valid};

@@ -3,7 +3,6 @@
 use animation::Part;
 use tables::Header;
 use tables::Slot;
-ghost use mathlib.Core.Path.{_≡_};
 ghost use Rattle.model.specs.Morph.{withTargets};
 ghost use Rattle.model.specs.Attributes.{attributesIn, shapeOf, Reshaped};
 ghost use Rattle.mesh.specs.Lent.{targetsIn};

@@ -7,7 +7,6 @@ use crate::blending::add_stations;
 use animation::Part;
 use tables::Header;
 use tables::TargetRow;
-ghost use mathlib.Core.Path.{_≡_};
 ghost use Prim.Native.Nat.{_+_};
 ghost use Rattle.model.specs.Lists.{rowsIn};
 ghost use Rattle.model.specs.Vector.{_⊙_, _⊞_};

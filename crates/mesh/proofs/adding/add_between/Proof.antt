@@ -4,7 +4,7 @@ use Prim.Native.Nat.{ℕ, _-_, _*_, _/_, _≤_}
 use native.Mathlib.Omega.{arith}
 use borrow.Author.Needs.{needs}
 use denote.Ref.{now}
-use lib.Ieee.{Float, nan}
+use lib.Ieee.{nan}
 use lib.ListN.{length, getD, set}
 use Rattle.float.specs.F32.{_⊕_, _⊖_, _⊗_}
 use Rattle.mesh.proofs.Floatwise.{doneTo, none-done, step}

@@ -1,5 +1,5 @@
 -- `mesh::adding::deltas_in` meets its contract. Assumes nothing.
-use mathlib.Core.Path.{_≡_, sym, ap, _∙_}
+use mathlib.Core.Path.{sym, ap, _∙_}
 use mathlib.Core.Bool.{Bool}
 use mathlib.Core.List.{[]}
 use borrow.Author.Needs.{needs}

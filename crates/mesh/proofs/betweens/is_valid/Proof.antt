@@ -1,5 +1,5 @@
 -- `mesh::betweens::is_valid` meets its contract. Assumes nothing.
-use mathlib.Core.Path.{_≡_, sym, _∙_}
+use mathlib.Core.Path.{sym, _∙_}
 use mathlib.Core.Bool.{not, _&&_}
 use borrow.Author.Needs.{needs}
 use lib.Ieee.{eq, ne}

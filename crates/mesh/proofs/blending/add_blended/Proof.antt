@@ -1,5 +1,5 @@
 -- `mesh::blending::add_blended` meets its contract. Assumes nothing.
-use mathlib.Core.Path.{_≡_, ap, _∙_}
+use mathlib.Core.Path.{_∙_}
 use borrow.Author.Needs.{needs}
 use denote.Ref.{now}
 use Rattle.model.specs.Lists.{rowsIn, tabulate}

@@ -1,11 +1,10 @@
 -- `mesh::blending::widened_at` meets its contract. Assumes nothing.
-use mathlib.Core.Path.{_≡_, sym, ap, _∙_}
+use mathlib.Core.Path.{sym, ap, _∙_}
 use mathlib.Core.Bool.{Bool}
 use borrow.Author.Needs.{needs}
 use denote.Ref.{now}
 use Rattle.model.specs.Lists.{pick}
-use Rattle.mesh.specs.declared.Station.{Station}
-use Rattle.mesh.specs.Stations.{betweensIn, keptIn, widenedIn, widenedBy}
+use Rattle.mesh.specs.Stations.{betweensIn, widenedIn, widenedBy}
 use Rattle.mesh.proofs.blending.widened_at.Statement.{statement}
 use Rattle.mesh.proofs.blending.widened_at.Tie as tie
 

@@ -1,14 +1,13 @@
 -- `mesh::blending::widened_by_all` meets its contract. The first k in-betweens are done. Assumes nothing.
 use mathlib.Core.Path.{_≡_, refl, sym, ap, _∙_}
-use Prim.Native.Nat.{ℕ, _-_, _≤_}
+use Prim.Native.Nat.{_-_, _≤_}
 use native.Mathlib.Omega.{arith}
 use borrow.Author.Needs.{needs}
 use denote.Ref.{now}
-use lib.ListN.{length, take}
+use lib.ListN.{take}
 use lib.Seq.{take-all}
 use Rattle.model.specs.Lists.{foldl}
 use Rattle.model.proofs.ListLaws.{length-tabulate, getD-tabulate, foldl-more}
-use Rattle.mesh.specs.declared.Blend.{Blend}
 use Rattle.mesh.specs.Stations.{betweensIn, stationAt, stationsIn, widenedBy}
 use Rattle.mesh.proofs.blending.widened_by_all.Statement.{statement}
 use Rattle.mesh.proofs.blending.widened_by_all.Tie as tie

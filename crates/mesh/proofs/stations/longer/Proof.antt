@@ -1,5 +1,5 @@
 -- `mesh::stations::longer` meets its contract. Assumes nothing.
-use mathlib.Core.Path.{_≡_, ap}
+use mathlib.Core.Path.{ap}
 use mathlib.Core.List.{List}
 use Prim.Native.Nat.{_/_}
 use native.Mathlib.Omega.{arith}

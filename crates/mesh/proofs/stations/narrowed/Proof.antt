@@ -1,5 +1,4 @@
 -- `mesh::stations::narrowed` meets its contract. Assumes nothing.
-use mathlib.Core.Path.{_≡_, refl, sym, ap, _∙_}
 use Rattle.mesh.specs.Stations.{narrowedIn}
 use Rattle.mesh.proofs.stations.narrowed.Statement.{statement}
 use Rattle.mesh.proofs.stations.narrowed.Tie as tie

@@ -1,5 +1,4 @@
 -- `mesh::stations::widened` meets its contract. Assumes nothing.
-use mathlib.Core.Path.{_≡_}
 use borrow.Author.Needs.{needs}
 use Rattle.mesh.specs.Stations.{widenedIn}
 use Rattle.mesh.proofs.stations.widened.Statement.{statement}

@@ -1,5 +1,5 @@
 -- `mesh::targets::add_target` meets its contract. Assumes nothing.
-use mathlib.Core.Path.{_≡_, refl, sym, ap, _∙_, subst}
+use mathlib.Core.Path.{refl, sym, ap, _∙_}
 use mathlib.Core.List.{List}
 use borrow.Author.Needs.{needs}
 use denote.Ref.{now}
@@ -10,7 +10,6 @@ use Rattle.model.specs.Morph.{withDeltas}
 use Rattle.model.specs.Attributes.{overRows}
 use Rattle.tables.specs.Decoded.{targetOf}
 use Rattle.mesh.specs.Lent.{lentIn}
-use Rattle.mesh.specs.Added.{Added}
 use Rattle.mesh.proofs.SlotLaws.{slot-rows}
 use Rattle.mesh.proofs.TargetLaws.{plusXyz, unmoved, moved-by-stations, moved-plainly}
 use Rattle.mesh.proofs.targets.add_target.Statement.{statement}
