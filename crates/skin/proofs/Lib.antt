@@ -1,0 +1,5 @@
+pub mod Binding
+pub mod Blending
+pub mod Every
+pub mod Palettes
+pub mod Rows

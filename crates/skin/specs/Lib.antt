@@ -1,0 +1,3 @@
+pub mod Weights
+pub mod Skeletons
+pub mod Palette

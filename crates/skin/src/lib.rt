@@ -1,0 +1,25 @@
+// The palette of a skin, the root of its joints, and the weights that a node's mesh is blended with: the port of skin.rs and
+// of the scene part of skinning.rs. World matrices come in lent slots, a code and sixteen floats a node.
+use tables::SkeletonRow;
+
+mod palette;
+mod skeletons;
+mod weights;
+
+pub use palette::palette_count;
+pub use palette::write_palette;
+pub use weights::effective_morph_weights;
+pub use weights::weights_number;
+pub use weights::weights_of;
+
+// How many joint matrices a palette has, if there is one.
+pub enum Joints {
+    Count(usize),
+    Nothing,
+}
+
+// The skeleton of a skin, if both ids name something.
+pub(crate) enum Bound {
+    Skeleton(SkeletonRow),
+    Nothing,
+}

@@ -1,0 +1,28 @@
+use crate::Bound;
+use tables::Header;
+ghost use mathlib.Core.Path.{_≡_};
+ghost use Prim.Native.Nat.{_<_};
+ghost use Rattle.skin.specs.Skeletons.{Named};
+
+pub(crate) fn wide(x: u32) -> usize
+    ensures { λ r. ⌜ (r ≡ x) × (r < 4294967296) ⌝ }
+{
+    x as usize
+}
+
+// The skeleton of a skin.
+pub(crate) fn skeleton_of(words: &[u32], h: Header, skin: u32) -> Bound
+    ensures { λ r. ⌜ Named (now (words .entry)) h skin r ⌝ }
+{
+    let skins = h.skins;
+    let k = wide(skin);
+    if skins.skins.count <= k {
+        return Bound::Nothing;
+    }
+    let row = tables::skin_row(words, skins.skins, k);
+    let b = wide(row.skeleton);
+    if skins.skeletons.count <= b {
+        return Bound::Nothing;
+    }
+    Bound::Skeleton(tables::skeleton_row(words, skins.skeletons, b))
+}
