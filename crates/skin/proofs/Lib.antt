@@ -1,3 +1,4 @@
+pub mod Answering
 pub mod Binding
 pub mod Blending
 pub mod Every

@@ -1,3 +1,4 @@
 pub mod Weights
 pub mod Skeletons
 pub mod Palette
+pub mod Calls

@@ -2,10 +2,12 @@
 // of the scene part of skinning.rs. World matrices come in lent slots, a code and sixteen floats a node.
 use tables::SkeletonRow;
 
+mod calls;
 mod palette;
 mod skeletons;
 mod weights;
 
+pub use calls::joint_matrices_with;
 pub use palette::palette_count;
 pub use palette::write_palette;
 pub use weights::effective_morph_weights;
@@ -16,6 +18,13 @@ pub use weights::weights_of;
 pub enum Joints {
     Count(usize),
     Nothing,
+}
+
+// A refusal number, or 0, and how many floats were written.
+#[repr(C)]
+pub struct Answer {
+    pub number: u32,
+    pub length: usize,
 }
 
 // The skeleton of a skin, if both ids name something.

@@ -1,0 +1,110 @@
+use crate::Answer;
+use crate::Joints;
+use crate::palette::palette_count;
+use crate::palette::write_palette;
+use crate::skeletons::wide;
+use tables::Header;
+ghost use Rattle.checks.specs.Drawn.{lentAs};
+ghost use Rattle.skin.specs.Calls.{NodeCounted, Judged, Answered};
+
+// How many joint matrices the palette of a node has.
+fn node_count(words: &[u32], floats: &[f32], h: Header, node: u32, places: &[u32]) -> Joints
+    ensures { λ r. ⌜ NodeCounted (now (words .entry)) (now (floats .entry)) h node (now (places .entry)) r ⌝ }
+{
+    let i = wide(node);
+    let nodes = h.graph.nodes;
+    if nodes.count <= i {
+        return Joints::Nothing;
+    }
+    let row = tables::node_row(words, nodes, i);
+    if row.skin.mark == 0 {
+        return Joints::Nothing;
+    }
+    palette_count(words, floats, h, row.skin.id, places)
+}
+
+// The answer for the palette of a node, with so many world slots, and room for so many floats.
+fn judge(
+    words: &[u32],
+    floats: &[f32],
+    node_weights: &[f32],
+    mesh_weights: &[f32],
+    h: Header,
+    node: u32,
+    places: &[u32],
+    slots: usize,
+    room: usize,
+) -> Answer
+    ensures { λ r. ⌜ Judged (lentAs (now (words .entry)) (now (floats .entry)) (now («node_weights» .entry)) (now («mesh_weights» .entry)) h) node (now (places .entry)) slots room r ⌝ }
+{
+    let drawn = checks::tables_number(words, floats, node_weights, mesh_weights, h);
+    if drawn != 0 {
+        return Answer {
+            number: drawn,
+            length: 0,
+        };
+    }
+    let n = h.graph.nodes.count;
+    if slots < n {
+        return Answer {
+            number: 6,
+            length: 0,
+        };
+    }
+    if n <= wide(node) {
+        return Answer {
+            number: 7,
+            length: 0,
+        };
+    }
+    let Joints::Count(k) = node_count(words, floats, h, node, places) else {
+        return Answer {
+            number: 9,
+            length: 0,
+        };
+    };
+    if room / 16 < k {
+        return Answer {
+            number: 10,
+            length: 0,
+        };
+    }
+    Answer {
+        number: 0,
+        length: k * 16,
+    }
+}
+
+// Writes the palette of a node, from worlds that are given, to the start of `out`. Where a number is answered, nothing is
+// changed.
+pub fn joint_matrices_with(
+    words: &[u32],
+    floats: &[f32],
+    node_weights: &[f32],
+    mesh_weights: &[f32],
+    h: Header,
+    node: u32,
+    places: &[u32],
+    worlds: &[f32],
+    out: &mut [f32],
+) -> Answer
+    ensures { λ r. ⌜ Answered (lentAs (now (words .entry)) (now (floats .entry)) (now («node_weights» .entry)) (now («mesh_weights» .entry)) h) node (now (places .entry)) (now (worlds .entry)) (now (out .entry)) (now (out .exit)) r ⌝ }
+{
+    let answer = judge(
+        words,
+        floats,
+        node_weights,
+        mesh_weights,
+        h,
+        node,
+        places,
+        wire::least(places.len(), worlds.len() / 16),
+        out.len(),
+    );
+    if answer.number != 0 {
+        return answer;
+    }
+    let row = tables::node_row(words, h.graph.nodes, wide(node));
+    write_palette(words, floats, h, row.skin.id, places, worlds, out);
+    answer
+}
