@@ -3,13 +3,16 @@
 use tables::SkeletonRow;
 
 mod calls;
+mod lines;
 mod palette;
+mod roots;
 mod skeletons;
 mod weights;
 
 pub use calls::joint_matrices_with;
 pub use palette::palette_count;
 pub use palette::write_palette;
+pub use roots::skin_root;
 pub use weights::effective_morph_weights;
 pub use weights::weights_number;
 pub use weights::weights_of;
@@ -25,6 +28,13 @@ pub enum Joints {
 pub struct Answer {
     pub number: u32,
     pub length: usize,
+}
+
+// A refusal number, or 0, and the id of a node.
+#[repr(C)]
+pub struct Root {
+    pub number: u32,
+    pub node: u32,
 }
 
 // The skeleton of a skin, if both ids name something.
