@@ -1,17 +1,17 @@
 -- What the call for a node's palette answers and leaves. Assumes nothing.
 use mathlib.Core.Path.{_≡_, refl, sym, ap, _∙_}
 use mathlib.Core.Bool.{Bool, true, false, not, false≢true}
-use mathlib.Core.List.{List, [], _∷_, _++_}
-use mathlib.Core.Option.{Option, none, some}
+use mathlib.Core.List.{List, [], _++_}
+use mathlib.Core.Option.{Option, none, some, Option·none-ne-some, Option·some-ne-none}
 use Prim.Native.Nat.{ℕ, zero, suc, _*_, _/_, _≤_, _<_, min}
 use native.Mathlib.Omega.{arith}
-use borrow.Author.Tests.{lt-ltb, le-ltb, le-leb, ltb-true, ltb-false, eqb-true, eqb-false, ne-eqb, not-false}
-use lib.Dec.{ltb, eqb, leb}
+use borrow.Author.Tests.{lt-ltb, le-ltb, ltb-true, ltb-false, eqb-true, eqb-false, ne-eqb, not-false}
+use lib.Dec.{ltb, eqb}
 use lib.Ieee.{Float}
 use lib.ListN.{length, drop, List·getD-eq-default}
 use Rattle.model.specs.Lists.{pick, joined, isSome, orElse, andThen, mapSome}
 use Rattle.model.specs.Matrix.{Matrix}
-use Rattle.model.specs.Scene.{Scene, Node, blank, nodeCount, nodeAt}
+use Rattle.model.specs.Scene.{Node, blank, nodeCount, nodeAt}
 use Rattle.model.specs.SkinCalls.{skinPalette, nodePalette, paletteNumber}
 use Rattle.model.specs.Refusals.{firstOf, lowest}
 use Rattle.tables.specs.declared.NodeRow.{NodeRow}
@@ -25,6 +25,7 @@ use Rattle.skin.specs.declared.Answer.{Answer}
 use Rattle.skin.specs.Palette.{laidOut}
 use Rattle.skin.specs.Calls.{paletteAt, Judged, Answered}
 use Rattle.skin.proofs.Rows.{laid}
+use Rattle.skin.proofs.Numbers.{lowest-some}
 
 -- ---- the skin of a node
 module _ (l : Lent) (i : ℕ) (world : ℕ → Option Matrix) where
@@ -52,10 +53,6 @@ module _ (l : Lent) (i : ℕ) (world : ℕ → Option Matrix) where
         go false q = skin-named (eqb-false (row .skin .mark) 0 q)
 
 -- ---- the number
-lowest-some : (g n : ℕ) → (g ≡ 0 → ⊥) → g ≡ lowest g n
-lowest-some zero n d = absurd (d refl)
-lowest-some (suc g) n d = refl
-
 abbrev fourth : Bool → Bool → Bool → Bool → ℕ
 fourth a b c d = pick a 6 (pick b 7 (pick c 9 (pick d 10 0)))
 
@@ -68,18 +65,12 @@ none-of zero false false false false h = (refl, refl, refl, refl)
 none-of (suc g) a b c d h = absurd (omega (arith, h))
 
 counted : (p : Option (List Matrix)) (k : ℕ) → some k ≡ mapSome length p → (isSome p ≡ true) × (length (orElse p []) ≡ k)
-counted none k h = absurd (no-some k h)
-  where
-    no-some : (k : ℕ) → some k ≡ none → ⊥
-    no-some k h = let z : _≡_ {A = ℕ} 0 1 = cc in omega arith
+counted none k h = absurd (Option·some-ne-none k h)
 counted (some ms) k h = (refl, sym (ap (λ (o : Option ℕ). orElse o 0) h))
 
 uncounted : (p : Option (List Matrix)) → none ≡ mapSome length p → isSome p ≡ false
 uncounted none h = refl
-uncounted (some ms) h = absurd (no-some (length ms) h)
-  where
-    no-some : (k : ℕ) → none ≡ some k → ⊥
-    no-some k h = let z : _≡_ {A = ℕ} 0 1 = cc in omega arith
+uncounted (some ms) h = absurd (Option·none-ne-some (length ms) h)
 
 module _ (l : Lent) (i n room : ℕ) (p : Option (List Matrix)) where
   abbrev number : ℕ

@@ -5,12 +5,12 @@ use mathlib.Core.List.{List, [], _∷_}
 use mathlib.Core.Option.{Option, none, some}
 use Prim.Native.Nat.{ℕ, zero, suc, _≤_, _<_}
 use native.Mathlib.Omega.{arith}
-use borrow.Author.Tests.{lt-ltb, le-ltb, ltb-true, ltb-false, eqb-true, eqb-false}
+use borrow.Author.Tests.{ltb-true, ltb-false, eqb-true, eqb-false, not-false}
 use lib.Dec.{ltb, eqb}
 use lib.Ieee.{Float}
 use lib.ListN.{length, getElem?, List·getD-eq-default}
 use Rattle.model.specs.Lists.{pick, isSome, andThen}
-use Rattle.model.specs.Scene.{Scene, Node, Mesh, blank, nodeCount, nodeAt, meshAt}
+use Rattle.model.specs.Scene.{Node, Mesh, blank, nodeAt, meshAt}
 use Rattle.model.specs.Skin.{effectiveWeights}
 use Rattle.model.specs.SkinCalls.{weightsNumber, weightsOr, weightsOf}
 use Rattle.model.specs.Refusals.{noSuchNode, firstOf, lowest}
@@ -21,6 +21,7 @@ use Rattle.tables.specs.Decoded.{Lent, nodeOf, meshOf, sceneOf}
 use Rattle.tables.proofs.Decoding.{node-count, node-at, mesh-at, no-mesh}
 use Rattle.tables.proofs.Naming.{is-there, not-there}
 use Rattle.checks.specs.Drawn.{tablesNumber}
+use Rattle.skin.proofs.Numbers.{lowest-some}
 
 -- ---- own weights before the mesh's
 module _ (mark : ℕ) (own : List Float) (mesh : Mesh) where
@@ -91,18 +92,10 @@ module _ (l : Lent) (i : ℕ) where
       inside false q = absurd (out (mesh-past (ltb-false _ _ q)))
 
 -- ---- the number
-lowest-some : (g n : ℕ) → (g ≡ 0 → ⊥) → g ≡ lowest g n
-lowest-some zero n d = absurd (d refl)
-lowest-some (suc g) n d = refl
-
 lowest-none : (g : ℕ) (b : Bool) → lowest g (pick b 7 0) ≡ 0 → (g ≡ 0) × (b ≡ false)
 lowest-none zero true h = absurd (omega (arith, h))
 lowest-none zero false h = (refl, refl)
 lowest-none (suc g) b h = absurd (omega (arith, h))
-
-not-not : (b : Bool) → not b ≡ false → b ≡ true
-not-not true h = refl
-not-not false h = sym h
 
 module _ (l : Lent) (i : ℕ) where
   pub drawn-first : (r : ℕ) → r ≡ tablesNumber l → (r ≡ 0 → ⊥) → r ≡ weightsNumber (tablesNumber l) (sceneOf l) i
@@ -125,5 +118,5 @@ module _ (l : Lent) (i : ℕ) where
       → w ≡ effectiveWeights (nodeOf l row .weights) (meshOf l (meshRow (l .words) (l .header .meshes .meshes) (row .mesh .id))) → w ≡ weightsOf (tablesNumber l) (sceneOf l) i
   unfolding weightsOf weightsNumber firstOf
   accepted row w z e h =
-      let m = has-mesh l i (not-not _ (lowest-none (tablesNumber l) (not (isSome (meshAt (sceneOf l) i))) z .1)) row e in
+      let m = has-mesh l i (not-false _ (lowest-none (tablesNumber l) (not (isSome (meshAt (sceneOf l) i))) z .1)) row e in
       h ∙ sym (λ j. weightsOr (z j) (m .0 j .weights) (m .1 j))

@@ -14,7 +14,7 @@ use Rattle.model.specs.Lists.{pick, every, anyOf, foldl, firstThat}
 use Rattle.model.specs.Skin.{ancestors, isAmong}
 use Rattle.model.specs.Agree.{Each}
 use Rattle.model.proofs.Tests.{both}
-use Rattle.skin.specs.Lines.{idIn, upIn, lineIn, Inside, commonIn, countOne, Leading}
+use Rattle.skin.specs.Lines.{upIn, lineIn, Inside, commonIn, countOne, Leading}
 
 -- ---- one count
 abbrev bump : ℕ → ℕ → Bool → ℕ

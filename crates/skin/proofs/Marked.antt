@@ -2,8 +2,8 @@
 use mathlib.Core.Path.{_≡_, refl, sym, ap, _∙_}
 use mathlib.Core.Bool.{Bool, true, false}
 use mathlib.Core.List.{List, [], _∷_}
-use mathlib.Core.Option.{Option, none, some}
-use Prim.Native.Nat.{ℕ, zero, suc, _+_, _-_, _≤_, _<_}
+use mathlib.Core.Option.{none, some, Option·none-ne-some}
+use Prim.Native.Nat.{ℕ, zero, suc, _+_, _-_, _<_}
 use native.Mathlib.Omega.{arith}
 use borrow.Author.Tests.{le-ltb, ltb-true}
 use lib.Dec.{ltb}
@@ -104,14 +104,8 @@ module _ (s : Scene) where
   codes-inside i p h = go (getD (marksOf s) i unplaced) (each-at (Fine (nodeCount s)) (marksOf s) i unplaced (marks-kept s .fine) tt) (sym (up-is i) ∙ h)
     where
       go : (q : Place) → Fine (nodeCount s) q → parentIn q ≡ some p → p < length (codesOf (marksOf s))
-      go unplaced f e = absurd (no-some e)
-        where
-          no-some : none ≡ some p → ⊥
-          no-some e = let z : _≡_ {A = ℕ} 0 1 = cc in omega arith
-      go root f e = absurd (no-some e)
-        where
-          no-some : none ≡ some p → ⊥
-          no-some e = let z : _≡_ {A = ℕ} 0 1 = cc in omega arith
+      go unplaced f e = absurd (Option·none-ne-some p e)
+      go root f e = absurd (Option·none-ne-some p e)
       go (below r) f e = let z : r ≡ p = cc in omega (arith, codes-length)
 
   pub common-linked : (js : List ℕ) → commonIn (codesOf (marksOf s)) js ≡ commonRoot s js

@@ -1,13 +1,13 @@
 -- The root of a skin, by its rows and by what is answered. Assumes nothing.
 use mathlib.Core.Path.{_≡_, refl, sym, ap, _∙_, subst}
-use mathlib.Core.Bool.{Bool, true, false, not}
+use mathlib.Core.Bool.{Bool, not}
 use mathlib.Core.List.{List, [], _∷_, _++_}
 use mathlib.Core.Option.{Option, none, some}
 use Prim.Native.Nat.{ℕ, zero, suc, _≤_, _<_}
 use native.Mathlib.Omega.{arith}
 use borrow.Author.Tests.{le-ltb, ne-eqb, eq-eqb}
-use lib.Dec.{ltb, eqb}
-use lib.ListN.{length, getElem?, take, drop, replicate, length-replicate}
+use lib.Dec.{ltb}
+use lib.ListN.{length, getElem?, take, drop}
 use lib.Seq.{take-at}
 use Rattle.model.specs.Lists.{pick, isSome, orElse}
 use Rattle.model.specs.Scene as scene
@@ -25,10 +25,10 @@ use Rattle.tables.proofs.Naming.{is-there, not-there}
 use Rattle.checks.specs.Drawn.{tablesNumber}
 use Rattle.checks.proofs.Clearing.{checked}
 use Rattle.graph.specs.Marks.{parentsNumber, Parents}
-use Rattle.skin.specs.declared.Root.{Root}
 use Rattle.skin.specs.Lines.{Inside}
 use Rattle.skin.specs.Roots.{RootAnswered}
 use Rattle.skin.proofs.Marked.{codes-length, codes-inside}
+use Rattle.skin.proofs.Numbers.{lowest-some}
 
 -- ---- by what the ids name
 module _ (s : scene.Scene) (k : ℕ) where
@@ -75,10 +75,6 @@ module _ (l : Lent) (k : ℕ) where
           (ap (getElem? (sceneOf l .skeletons)) (sym f) ∙ skeleton-at l b g ∙ ap (λ (r : SkeletonRow). some (skeletonOf l r)) (sym q)))
 
 -- ---- the answer
-lowest-some : (g n : ℕ) → (g ≡ 0 → ⊥) → g ≡ lowest g n
-lowest-some zero n d = absurd (d refl)
-lowest-some (suc g) n d = refl
-
 module _ (l : Lent) where
   -- the room for the marks of all nodes is there
   enough-room : parentsNumber l 1024 ≡ tablesNumber l

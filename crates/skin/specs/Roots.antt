@@ -1,7 +1,6 @@
 -- What the call for a skin's root answers: scope, "Palette, skin root, weights". Definitions only.
 use mathlib.Core.Path.{_≡_}
 use mathlib.Core.List.{List}
-use mathlib.Core.Option.{Option}
 use Prim.Native.Nat.{ℕ}
 use lib.Dec.{eqb}
 use lib.Ieee.{Float}

@@ -4,9 +4,9 @@ use crate::skeletons::wide;
 use tables::Named;
 ghost use mathlib.Core.Path.{_≡_};
 ghost use Prim.Native.Nat.{_+_, _≤_, _<_};
-ghost use lib.Dec.{ltb, eqb};
+ghost use lib.Dec.{eqb};
 ghost use lib.ListN.{length, getD};
-ghost use Rattle.model.specs.Lists.{every, foldl, firstThat};
+ghost use Rattle.model.specs.Lists.{foldl, firstThat};
 ghost use Rattle.tables.specs.Tags.{namedOf};
 ghost use Rattle.skin.specs.Lines.{codeAbove, lineIn, countOne, Leading};
 

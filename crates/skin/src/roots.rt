@@ -6,7 +6,7 @@ use tables::Header;
 use tables::Named;
 ghost use mathlib.Core.Path.{_≡_};
 ghost use mathlib.Core.Option.{none, some};
-ghost use Prim.Native.Nat.{ℕ, _≤_};
+ghost use Prim.Native.Nat.{_≤_};
 ghost use lib.Dec.{ltb};
 ghost use lib.ListN.{length};
 ghost use Rattle.model.specs.Lists.{pick, every};

@@ -1,13 +1,12 @@
 -- `skin::lines::count_line` meets its contract. What is left of the line is still to count. Assumes nothing.
 use mathlib.Core.Path.{_≡_, refl, sym, ap, _∙_}
-use mathlib.Core.List.{List}
-use Prim.Native.Nat.{ℕ, _<_}
+use Prim.Native.Nat.{_<_}
 use native.Mathlib.Omega.{arith}
 use borrow.Author.Needs.{needs}
 use denote.Ref.{now}
 use lib.ListN.{length}
 use Rattle.model.specs.Lists.{foldl}
-use Rattle.skin.specs.Lines.{codeAbove, lineIn, countOne}
+use Rattle.skin.specs.Lines.{lineIn, countOne}
 use Rattle.skin.proofs.Upward.{restOf, line-start, goes-on, fold-step, fold-end}
 use Rattle.skin.proofs.lines.count_line.Statement.{statement}
 use Rattle.skin.proofs.lines.count_line.Tie as tie

@@ -1,11 +1,10 @@
 -- `skin::lines::count_one` meets its contract. Assumes nothing.
-use mathlib.Core.Path.{sym, ap, _∙_}
-use mathlib.Core.Bool.{Bool, true, false}
+use mathlib.Core.Path.{sym, ap}
+use mathlib.Core.Bool.{Bool}
 use Prim.Native.Nat.{_+_}
 use borrow.Author.Needs.{needs}
 use borrow.Author.Tests.{eq-eqb, ne-eqb}
 use denote.Ref.{now}
-use lib.Dec.{eqb}
 use lib.ListN.{getD, set}
 use Rattle.model.specs.Lists.{pick}
 use Rattle.skin.specs.Lines.{countOne}

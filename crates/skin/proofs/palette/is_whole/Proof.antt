@@ -1,10 +1,10 @@
 -- `skin::palette::is_whole` meets its contract. Assumes nothing.
-use mathlib.Core.Path.{_≡_, sym, ap, _∙_}
+use mathlib.Core.Path.{sym, ap, _∙_}
 use mathlib.Core.Logic.{_⊎_, inl, inr, ⊎-elim}
 use borrow.Author.Needs.{needs}
 use denote.Ref.{now}
 use Rattle.model.specs.Lists.{isSome}
-use Rattle.skin.proofs.Palettes.{Enough, too-short, by-worlds}
+use Rattle.skin.proofs.Palettes.{too-short, by-worlds}
 use Rattle.skin.proofs.palette.is_whole.Statement.{statement}
 use Rattle.skin.proofs.palette.is_whole.Tie as tie
 

@@ -1,5 +1,5 @@
 -- `skin::palette::palette_count` meets its contract. Assumes nothing.
-use mathlib.Core.Path.{_≡_, sym, ap, _∙_}
+use mathlib.Core.Path.{sym, ap, _∙_}
 use mathlib.Core.List.{List}
 use mathlib.Core.Option.{Option, some}
 use Prim.Native.Nat.{ℕ}
@@ -12,7 +12,6 @@ use Rattle.model.specs.Matrix.{Matrix}
 use Rattle.tables.specs.Decoded.{Lent}
 use Rattle.checks.specs.Drawn.{lentAs}
 use Rattle.worlds.specs.Slots.{worldIn}
-use Rattle.skin.specs.Palette.{paletteIn}
 use Rattle.skin.proofs.Binding.{none-bound, bound-to}
 use Rattle.skin.proofs.Palettes.{no-palette, palette-is}
 use Rattle.skin.proofs.Rows.{palette-length}

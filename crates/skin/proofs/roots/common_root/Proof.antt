@@ -1,13 +1,11 @@
 -- `skin::roots::common_root` meets its contract. Assumes nothing.
-use mathlib.Core.Path.{_≡_, sym, ap, _∙_}
-use mathlib.Core.Bool.{Bool, true}
+use mathlib.Core.Path.{sym, _∙_}
 use native.Mathlib.Omega.{arith}
 use borrow.Author.Needs.{needs}
 use borrow.Author.Tests.{not-true, not-false}
 use denote.Ref.{now}
 use lib.Dec.{ltb}
 use lib.ListN.{length}
-use Rattle.model.specs.Lists.{every}
 use Rattle.skin.proofs.Leads.{none-common, not-nodes, leading-start, joint-inside, rest-inside, rest-leads, common-is}
 use Rattle.skin.proofs.roots.common_root.Statement.{statement}
 use Rattle.skin.proofs.roots.common_root.Tie as tie

@@ -1,12 +1,10 @@
 -- `skin::skeletons::skeleton_of` meets its contract. Assumes nothing.
-use mathlib.Core.Path.{_≡_, sym, ap, _∙_}
+use mathlib.Core.Path.{sym, ap, _∙_}
 use mathlib.Core.List.{List}
-use Prim.Native.Nat.{ℕ}
 use borrow.Author.Needs.{needs}
 use denote.Ref.{now}
 use lib.Ieee.{Float}
 use Rattle.model.specs.Scene as scene
-use Rattle.tables.specs.Records.{skinRow, skeletonRow}
 use Rattle.tables.specs.Decoded.{Lent, skeletonOf, sceneOf}
 use Rattle.checks.specs.Drawn.{lentAs}
 use Rattle.skin.proofs.Binding.{skin-past, skeleton-past, skeleton-there}
