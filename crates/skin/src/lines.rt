@@ -23,7 +23,7 @@ fn above(codes: &[u32], a: usize, left: usize) -> u32
     0
 }
 
-// A node that was on the lines of all t joints so far is on one more.
+// Counts node a if it was on the lines of all t joints before; one that missed a line stays behind.
 fn count_one(counts: &mut [usize], a: usize, t: usize)
     requires { ⌜ t < 18446744073709551615 ⌝ }
     ensures { λ _. ⌜ now (counts .exit) ≡ countOne t (now (counts .entry)) a ⌝ }
@@ -50,7 +50,8 @@ fn count_line(codes: &[u32], joint: u32, t: usize, counts: &mut [usize])
     }
 }
 
-// Counts the lines of all joints, one after the other.
+// Counts the lines of all joints, one after the other. Then a node is counted once for each joint just if it is on all
+// lines.
 pub(crate) fn count_lines(codes: &[u32], joints: &[u32], counts: &mut [usize])
     requires { ⌜ (length (now codes) ≤ 1024) × Leading (now codes) (now joints) 0 (now counts) ⌝ }
     ensures { λ _. ⌜ Leading (now (codes .entry)) (now (joints .entry)) (length (now (joints .entry))) (now (counts .exit)) ⌝ }
@@ -62,6 +63,7 @@ pub(crate) fn count_lines(codes: &[u32], joints: &[u32], counts: &mut [usize])
     }
 }
 
+// Whether node a is counted m times.
 fn stands_at(counts: &[usize], a: usize, m: usize) -> bool
     ensures { λ r. ⌜ r ≡ eqb (getD (now (counts .entry)) a 0) m ⌝ }
 {

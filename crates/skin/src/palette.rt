@@ -29,6 +29,7 @@ fn is_placed(j: u32, n: usize, places: &[u32]) -> bool
     false
 }
 
+// Whether every joint has a world.
 fn all_placed(joints: &[u32], n: usize, places: &[u32]) -> bool
     ensures { λ r. ⌜ r ≡ every (hasWorld n (now (places .entry))) (now (joints .entry)) ⌝ }
 {
@@ -80,6 +81,7 @@ fn bind_at(binds: &[f32], at: usize) -> Mat4
     scene::load(binds, at)
 }
 
+// The world of a joint times its inverse bind, which is at `at`. The identity is multiplied too: that turns -0 into 0.
 fn joint_matrix(joint: u32, worlds: &[f32], binds: &[f32], at: usize) -> Mat4
     ensures { λ r. ⌜ r .m ≡ mul (matrixIn (now (worlds .entry)) (joint * 16)) (bindIn (now (binds .entry)) at) ⌝ }
 {
