@@ -4,6 +4,7 @@ use crate::palette::palette_count;
 use crate::palette::write_palette;
 use crate::skeletons::wide;
 use tables::Header;
+ghost use mathlib.Core.Path.{_≡_};
 ghost use Rattle.checks.specs.Drawn.{lentAs};
 ghost use Rattle.skin.specs.Calls.{NodeCounted, Judged, Answered};
 
@@ -23,6 +24,12 @@ fn node_count(words: &[u32], floats: &[f32], h: Header, node: u32, places: &[u32
     palette_count(words, floats, h, row.skin.id, places)
 }
 
+fn refusal(number: u32) -> Answer
+    ensures { λ r. ⌜ r ≡ record { number = number; length = 0 } ⌝ }
+{
+    Answer { number, length: 0 }
+}
+
 // The answer for the palette of a node, with so many world slots, and room for so many floats.
 fn judge(
     words: &[u32],
@@ -39,35 +46,20 @@ fn judge(
 {
     let drawn = checks::tables_number(words, floats, node_weights, mesh_weights, h);
     if drawn != 0 {
-        return Answer {
-            number: drawn,
-            length: 0,
-        };
+        return refusal(drawn);
     }
     let n = h.graph.nodes.count;
     if slots < n {
-        return Answer {
-            number: 6,
-            length: 0,
-        };
+        return refusal(6);
     }
     if n <= wide(node) {
-        return Answer {
-            number: 7,
-            length: 0,
-        };
+        return refusal(7);
     }
     let Joints::Count(k) = node_count(words, floats, h, node, places) else {
-        return Answer {
-            number: 9,
-            length: 0,
-        };
+        return refusal(9);
     };
     if room / 16 < k {
-        return Answer {
-            number: 10,
-            length: 0,
-        };
+        return refusal(10);
     }
     Answer {
         number: 0,

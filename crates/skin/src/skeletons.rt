@@ -2,7 +2,7 @@ use crate::Bound;
 use tables::Header;
 ghost use mathlib.Core.Path.{_≡_};
 ghost use Prim.Native.Nat.{_<_};
-ghost use Rattle.skin.specs.Skeletons.{Named};
+ghost use Rattle.skin.specs.Skeletons.{BoundTo};
 
 pub(crate) fn wide(x: u32) -> usize
     ensures { λ r. ⌜ (r ≡ x) × (r < 4294967296) ⌝ }
@@ -12,7 +12,7 @@ pub(crate) fn wide(x: u32) -> usize
 
 // The skeleton of a skin.
 pub(crate) fn skeleton_of(words: &[u32], h: Header, skin: u32) -> Bound
-    ensures { λ r. ⌜ Named (now (words .entry)) h skin r ⌝ }
+    ensures { λ r. ⌜ BoundTo (now (words .entry)) h skin r ⌝ }
 {
     let skins = h.skins;
     let k = wide(skin);
