@@ -1,0 +1,34 @@
+// The C functions of vertices that other languages link (`rt staticlib vertex_entries`).
+use scene::Mat4;
+ghost use Rattle.model.specs.Lists.{rowsIn};
+ghost use Rattle.model.specs.Vertices.{transformed, skinned};
+ghost use Rattle.model.specs.Attributes.{attributesIn, Reshaped};
+
+// Moves all vertices by m.
+#[no_mangle]
+pub extern "C" fn transformed_floats(
+    m: &[f32; 16],
+    positions: &mut [f32],
+    normals: &mut [f32],
+    tangents: &mut [f32],
+)
+    ensures { λ _. ⌜ Reshaped (transformed (now (m .entry)) (attributesIn (now (positions .entry)) (now (normals .entry)) (now (tangents .entry)))) (now (positions .entry)) (now (positions .exit)) (now (normals .entry)) (now (normals .exit)) (now (tangents .entry)) (now (tangents .exit)) ⌝ }
+{
+    let m = *m;
+    transform::transformed(Mat4 { m }, positions, normals, tangents);
+}
+
+// Moves each vertex by the matrices of its joints.
+#[no_mangle]
+pub extern "C" fn skinned_floats(
+    palette: &[f32],
+    joints: &[u32],
+    weights: &[f32],
+    positions: &mut [f32],
+    normals: &mut [f32],
+    tangents: &mut [f32],
+)
+    ensures { λ _. ⌜ Reshaped (skinned (rowsIn 16 (now (palette .entry))) (rowsIn 4 (now (joints .entry))) (rowsIn 4 (now (weights .entry))) (attributesIn (now (positions .entry)) (now (normals .entry)) (now (tangents .entry)))) (now (positions .entry)) (now (positions .exit)) (now (normals .entry)) (now (normals .exit)) (now (tangents .entry)) (now (tangents .exit)) ⌝ }
+{
+    transform::skinned(palette, joints, weights, positions, normals, tangents);
+}
