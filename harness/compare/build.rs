@@ -4,7 +4,7 @@
 use std::{env, path::PathBuf};
 
 const DEFAULT_FOLDER: &str = "../../target/staticlib";
-const LIBRARIES: [&str; 3] = ["entries", "track_entries", "byte_entries"];
+const LIBRARIES: [&str; 4] = ["entries", "track_entries", "byte_entries", "vertex_entries"];
 
 fn main() {
     println!("cargo:rerun-if-changed=build.rs");

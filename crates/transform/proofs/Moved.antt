@@ -9,6 +9,7 @@ use native.Mathlib.Omega.{arith}
 use borrow.Author.Tests.{lt-ltb, le-ltb}
 use lib.Dec.{ltb}
 use lib.Ieee.{Float, lt}
+use lib.Ieee as Ieee
 use lib.ListN.{length}
 use Rattle.float.specs.F32.{zero32}
 use Rattle.model.specs.Lists.{pick, indexed, rowsIn, row}
@@ -17,6 +18,8 @@ use Rattle.model.specs.Matrix.{Matrix, linear, determinant, inverseTranspose}
 use Rattle.model.specs.Vertices.{byMatrix, affinePoint, turnedNormal, turnedTangent, jointMatrix, skinned}
 use Rattle.model.specs.Attributes.{attributesIn, overRows, Reshaped}
 use Rattle.model.proofs.Rowwise.{row-count, row-length}
+use Rattle.scene.specs.Values.{linearOf}
+use Rattle.scene.specs.declared.Linear.{Linear}
 use Rattle.transform.specs.declared.influences.Blend.{Blend}
 use Rattle.transform.specs.Rows.{tangentBy, rowChanged, firstRows}
 use Rattle.transform.specs.Blending.{blended, Turned, Skinned}
@@ -31,6 +34,13 @@ tangent-by m l d p q = (λ j v. tangentBy (p j) (lt (q j) zero32) v)
 turned-length : (m : Matrix) (v : Vector) → length v ≡ 4 → length (turnedTangent m v) ≡ 4
 unfolding tangentBy turnedTangent
 turned-length m v h = tangent-length (linear m) (lt (determinant m) zero32) v h
+
+pub turned-by : (m : Matrix) (v : ℕ) (ln n lt t : List Float) (l : Linear) (k : List Float) (d : Float) → linearOf l ≡ inverseTranspose m → k ≡ linear m → d ≡ determinant m
+    → n ≡ rowChanged 3 (turnedNormal (linearOf l)) v ln → t ≡ rowChanged 4 (tangentBy k (Ieee.lt d zero32)) v lt → Turned m v ln n lt t
+turned-by m v ln n lt t l k d i p q e f = record {
+  normals = e ∙ ap (λ (o : Option (List Float)). rowChanged 3 (turnedNormal o) v ln) i;
+  tangents = f ∙ ap (λ (g : Vector → Vector). rowChanged 4 g v lt) (tangent-by m k d p q);
+}
 
 -- ---- one vertex
 module _ (b : Blend) (v : ℕ) (lp ln lt : List Float) where

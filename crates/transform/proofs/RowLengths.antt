@@ -23,7 +23,7 @@ point-length m p = either (not (eq (moved m 3 p) zero32) && not (eq (moved m 3 p
     either true w x y z = refl
     either false w x y z = refl
 
-unit-length : (l : List Float) (v : Vector) → length v ≡ 3 → length (turnedUnit l v) ≡ 3
+pub unit-length : (l : List Float) (v : Vector) → length v ≡ 3 → length (turnedUnit l v) ≡ 3
 unfolding turnedUnit normalized turned
 unit-length l v h = either (finite (norm (turned l v)) && lt zero32 (norm (turned l v))) (norm (turned l v)) v h
   where

@@ -15,16 +15,16 @@ use Rattle.model.specs.Lists.{pick, joined, tabulate, indexed, part, row, rowsI
 use Rattle.model.specs.Vector.{Vector}
 use Rattle.model.specs.Attributes.{overRows}
 use Rattle.model.proofs.RowLaws.{flat}
-use Rattle.model.proofs.Rowwise.{upTo, none-done, length-kept, next-row, row-done, rows-of, row-ends, tabulate-alike, indexed-tabulate}
+use Rattle.model.proofs.Rowwise.{upTo, none-done, length-kept, next-row, row-done, rows-of, row-length, tabulate-alike, indexed-tabulate}
 use Rattle.transform.specs.Rows.{rowChanged, firstRows}
 
 -- ---- one row
 module _ (w : ℕ) (f : Vector → Vector) (k : ℕ) (l : List Float) where
-  pub row-changed : (left : List Float) (x : Vector) → k < length l / w → left ≡ paste l (k * w) x w → x ≡ f (row w l k) → left ≡ rowChanged w f k l
+  pub row-changed : (left : List Float) (x y : Vector) → k < length l / w → left ≡ paste l (k * w) x w → x ≡ f y → y ≡ row w l k → left ≡ rowChanged w f k l
   unfolding rowChanged
-  row-changed left x h e v =
+  row-changed left x y h e v g =
       e
-      ∙ ap (λ (r : Vector). paste l (k * w) r w) v
+      ∙ ap (λ (r : Vector). paste l (k * w) r w) (v ∙ ap f g)
       ∙ sym (ap (λ (b : Bool). pick b (paste l (k * w) (f (row w l k)) w) l) (lt-ltb k (length l / w) h))
 
   pub row-absent : length l / w ≤ k → l ≡ rowChanged w f k l
@@ -61,7 +61,7 @@ module _ (w : ℕ) (f : ℕ → Vector → Vector) (l : List Float) (keeps : (i 
       let n : length u ≡ length l = length-kept w f l keeps k (omega arith) in
       let b : k < length u / w = rw n (omega arith) in
       ap (rowChanged w (f k) k) (first-done k (omega arith))
-      ∙ sym (row-changed w (f k) k u _ (f k (row w l k)) b refl (ap (f k) (sym (next-row w f l keeps k (omega arith)))))
+      ∙ sym (row-changed w (f k) k u _ (f k (row w l k)) (row w l k) b refl refl (sym (next-row w f l keeps k (omega arith))))
       ∙ row-done w f l keeps k (omega arith)
       ∙ ap (upTo w f l) (add-one k)
 
@@ -118,3 +118,10 @@ pub each-done : (w : ℕ) (g : Vector → Vector) (l : List Float) → ((i : ℕ
 each-done w g l keeps =
     rows-done w (λ _. g) l keeps (length l / w) (λ i b c. absurd (omega arith))
     ∙ ap (λ (r : List Vector). overRows w r l) (indexed-map 0 g (rowsIn w l))
+
+-- or by none
+pub each-kept : (w : ℕ) (l : List Float) → l ≡ overRows w (map (λ x. x) (rowsIn w l)) l
+unfolding firstRows
+each-kept w l =
+    rows-done w (λ _ x. x) l (row-length w l) 0 (λ i b c. refl)
+    ∙ ap (λ (r : List Vector). overRows w r l) (indexed-map 0 (λ x. x) (rowsIn w l))

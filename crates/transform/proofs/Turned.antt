@@ -2,13 +2,16 @@
 use mathlib.Core.Path.{_≡_, refl, sym, ap, _∙_}
 use mathlib.Core.Option.{Option}
 use mathlib.Core.Bool.{Bool, true, false}
-use mathlib.Core.List.{List, [], _∷_, _++_}
+use mathlib.Core.List.{List, [], _∷_, _++_, map}
+use Prim.Native.Nat.{ℕ}
 use lib.Ieee.{Float, neg}
-use Rattle.model.specs.Lists.{pick, orElse}
+use Rattle.model.specs.Lists.{pick, orElse, rowsIn}
 use Rattle.model.specs.Vector.{Vector, normalized}
 use Rattle.model.specs.Matrix.{turned}
 use Rattle.model.specs.Vertices.{turnedUnit, turnedNormal}
-use Rattle.transform.specs.Rows.{tangentBy}
+use Rattle.model.specs.Attributes.{overRows}
+use Rattle.transform.specs.Rows.{tangentBy, rowChanged}
+use Rattle.transform.proofs.RowSteps.{row-kept, each-kept}
 use Rattle.scene.specs.Values.{vec3, mat3, unitOf, linearOf}
 use Rattle.scene.specs.declared.Vec3.{Vec3}
 use Rattle.scene.specs.declared.Mat3.{Mat3}
@@ -29,13 +32,19 @@ module _ (l : List Float) (v t : Vector) (d : Direction) (product : t ≡ turned
   pub no-unit : d ≡ direction.None → v ≡ turnedUnit l v
   no-unit e = sym (by-direction ∙ ap (λ (x : Direction). orElse (unitOf x) v) e)
 
--- by a normal matrix n
-module _ (n : Linear) (v : Vector) where
-  pub has-normal : (l : Mat3) (r : Vector) → n ≡ linear.Of l → r ≡ turnedUnit (mat3 l) v → r ≡ turnedNormal (linearOf n) v
-  has-normal l r e p = p ∙ sym (ap (λ (x : Linear). turnedNormal (linearOf x) v) e)
+-- ---- by a normal matrix n
+module _ (n : Linear) (lent : List Float) where
+  pub normal-turned : (l : Mat3) (k : ℕ) (left : List Float) → n ≡ linear.Of l → left ≡ rowChanged 3 (turnedUnit (mat3 l)) k lent → left ≡ rowChanged 3 (turnedNormal (linearOf n)) k lent
+  normal-turned l k left e p = p ∙ sym (ap (λ (x : Linear). rowChanged 3 (turnedNormal (linearOf x)) k lent) e)
 
-  pub no-normal : n ≡ linear.None → v ≡ turnedNormal (linearOf n) v
-  no-normal e = sym (ap (λ (x : Linear). turnedNormal (linearOf x) v) e)
+  pub normal-left : (k : ℕ) → n ≡ linear.None → lent ≡ rowChanged 3 (turnedNormal (linearOf n)) k lent
+  normal-left k e = row-kept 3 k lent ∙ sym (ap (λ (x : Linear). rowChanged 3 (turnedNormal (linearOf x)) k lent) e)
+
+  pub normals-turned : (l : Mat3) (left : List Float) → n ≡ linear.Of l → left ≡ overRows 3 (map (turnedUnit (mat3 l)) (rowsIn 3 lent)) lent → left ≡ overRows 3 (map (turnedNormal (linearOf n)) (rowsIn 3 lent)) lent
+  normals-turned l left e p = p ∙ sym (ap (λ (x : Linear). overRows 3 (map (turnedNormal (linearOf x)) (rowsIn 3 lent)) lent) e)
+
+  pub normals-left : n ≡ linear.None → lent ≡ overRows 3 (map (turnedNormal (linearOf n)) (rowsIn 3 lent)) lent
+  normals-left e = each-kept 3 lent ∙ sym (ap (λ (x : Linear). overRows 3 (map (turnedNormal (linearOf x)) (rowsIn 3 lent)) lent) e)
 
 -- a tangent, by its direction once turned
 module _ (l : List Float) (mirror : Bool) (x y z h : Float) (u : Vector) (turns : u ≡ turnedUnit l (x ∷ y ∷ z ∷ [])) where

@@ -23,16 +23,6 @@ fn turned_unit(l: Mat3, v: Vec3) -> Vec3
     }
 }
 
-// The normal v by the normal matrix, if there is one.
-fn turned_normal(l: Linear, v: Vec3) -> Vec3
-    ensures { λ r. ⌜ vec3 r ≡ turnedNormal (linearOf l) (vec3 v) ⌝ }
-{
-    match l {
-        Linear::Of(n) => turned_unit(n, v),
-        Linear::None => v,
-    }
-}
-
 // The tangent t by a linear part; the handedness flips under a mirror.
 fn turned_tangent(l: Mat3, mirror: bool, t: Tangent) -> Tangent
     ensures { λ r. ⌜ tangent r ≡ tangentBy (mat3 l) mirror (tangent t) ⌝ }
@@ -50,13 +40,23 @@ fn turned_tangent(l: Mat3, mirror: bool, t: Tangent) -> Tangent
     }
 }
 
-// Turns normal k, if there is one.
-pub(crate) fn turn_normal(l: Linear, normals: &mut [f32], k: usize)
-    ensures { λ _. ⌜ now (normals .exit) ≡ rowChanged 3 (turnedNormal (linearOf l)) k (now (normals .entry)) ⌝ }
+// Turns normal k by l, if there is one.
+pub(crate) fn turn_unit(l: Mat3, normals: &mut [f32], k: usize)
+    ensures { λ _. ⌜ now (normals .exit) ≡ rowChanged 3 (turnedUnit (mat3 l)) k (now (normals .entry)) ⌝ }
 {
     if k < normals.len() / 3 {
         let v = load3(normals, k * 3);
-        store3(normals, k * 3, turned_normal(l, v));
+        store3(normals, k * 3, turned_unit(l, v));
+    }
+}
+
+// Turns normal k by the normal matrix, if there are both.
+pub(crate) fn turn_normal(n: Linear, normals: &mut [f32], k: usize)
+    ensures { λ _. ⌜ now (normals .exit) ≡ rowChanged 3 (turnedNormal (linearOf n)) k (now (normals .entry)) ⌝ }
+{
+    match n {
+        Linear::Of(l) => turn_unit(l, normals, k),
+        Linear::None => {}
     }
 }
 

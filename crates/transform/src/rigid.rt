@@ -1,5 +1,5 @@
-use crate::directions::turn_normal;
 use crate::directions::turn_tangent;
+use crate::directions::turn_unit;
 use crate::rows::load3;
 use crate::rows::store3;
 use scene::Linear;
@@ -8,8 +8,7 @@ use scene::Mat4;
 ghost use mathlib.Core.Path.{_≡_};
 ghost use mathlib.Core.List.{map};
 ghost use Rattle.model.specs.Lists.{rowsIn};
-ghost use Rattle.model.specs.Inverse.{normalMatrix};
-ghost use Rattle.model.specs.Vertices.{transformedPoint, turnedNormal, turnedTangent, transformed};
+ghost use Rattle.model.specs.Vertices.{transformedPoint, turnedUnit, turnedNormal, transformed};
 ghost use Rattle.model.specs.Attributes.{attributesIn, overRows, Reshaped};
 ghost use Rattle.scene.specs.Values.{mat3, linearOf};
 ghost use Rattle.transform.specs.Rows.{tangentBy, rowChanged, TurnedAll};
@@ -35,15 +34,25 @@ fn transform_positions(m: Mat4, positions: &mut [f32])
     }
 }
 
-// Turns all normals by the normal matrix l.
-fn transform_normals(l: Linear, normals: &mut [f32])
-    ensures { λ _. ⌜ now (normals .exit) ≡ overRows 3 (map (turnedNormal (linearOf l)) (rowsIn 3 (now (normals .entry)))) (now (normals .entry)) ⌝ }
+// Turns all normals by l.
+fn turn_units(l: Mat3, normals: &mut [f32])
+    ensures { λ _. ⌜ now (normals .exit) ≡ overRows 3 (map (turnedUnit (mat3 l)) (rowsIn 3 (now (normals .entry)))) (now (normals .entry)) ⌝ }
 {
     let n = normals.len() / 3;
     let mut k = 0usize;
     while k < n {
-        turn_normal(l, normals, k);
+        turn_unit(l, normals, k);
         k += 1;
+    }
+}
+
+// Turns all normals by the normal matrix, if there is one.
+fn transform_normals(n: Linear, normals: &mut [f32])
+    ensures { λ _. ⌜ now (normals .exit) ≡ overRows 3 (map (turnedNormal (linearOf n)) (rowsIn 3 (now (normals .entry)))) (now (normals .entry)) ⌝ }
+{
+    match n {
+        Linear::Of(l) => turn_units(l, normals),
+        Linear::None => {}
     }
 }
 

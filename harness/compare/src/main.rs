@@ -25,6 +25,7 @@ mod rng;
 mod sampling;
 mod tables;
 mod tally;
+mod vertices;
 
 use std::{env, io, process::ExitCode};
 
@@ -32,9 +33,10 @@ use std::{env, io, process::ExitCode};
 type Area = (&'static str, fn() -> bool);
 
 /// From the leaves up.
-const AREAS: [Area; 7] = [
+const AREAS: [Area; 8] = [
     ("leaves", leaves::compare),
     ("matrices", matrices::compare),
+    ("vertices", vertices::compare),
     ("sampling", sampling::compare),
     ("placing", placing::compare),
     ("tables", tables::compare),
@@ -82,6 +84,7 @@ fn speed() {
     measure::print_heading();
     leaves::speed::measure();
     matrices::speed::measure();
+    vertices::speed::measure();
     sampling::speed::measure();
     tables::speed::measure();
     pose::speed::measure();

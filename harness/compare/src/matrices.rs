@@ -8,6 +8,8 @@ pub mod speed;
 mod transforms;
 mod vertices;
 
+pub use inverses::nearly_affine;
+
 use crate::{
     port::{Mat3, Mat4, Quat, Vec3},
     tally::UNTOUCHED,

@@ -3,9 +3,11 @@
 
 mod bytes;
 mod lent;
+mod vertices;
 
 pub use bytes::*;
 pub use lent::*;
+pub use vertices::*;
 
 pub mod scene;
 

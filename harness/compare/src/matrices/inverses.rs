@@ -64,7 +64,7 @@ pub fn compare() -> bool {
 
 /// Of any kind, mostly with the bottom row of an affine matrix or one near it,
 /// and often of another size.
-fn nearly_affine(rng: &mut Rng) -> Mat4 {
+pub fn nearly_affine(rng: &mut Rng) -> Mat4 {
     const SIZES: [f32; 8] = [1e-39, 1e-20, 1e-14, 1e-13, 1e-12, 1e12, 1e13, 1e38];
     let mut m = matrix(rng);
     if rng.below(4) == 0 {

@@ -5,9 +5,6 @@ use borrow.Author.Needs.{needs}
 use Rattle.transform.proofs.directions.turned_tangent.Statement.{statement}
 use Rattle.transform.proofs.directions.turned_tangent.Tie as tie
 
-turned-unit-requires : tie.Need-turned-unit-requires
-turned-unit-requires c κs = search needs
-
 returns : tie.Need-returns
 returns c =
     let a = c .before .before .before .args in
@@ -21,4 +18,4 @@ returns-2 c =
     stays (mat3 (a .l)) (a .mirror) (t .direction .x) (t .direction .y) (t .direction .z) (t .handedness) (vec3 (c .before .turned-unit .result)) (c .before .turned-unit .ensures) (c .if1 .left)
 
 pub turned-tangent-spec : {M : Type 1} → statement M
-turned-tangent-spec = tie.close (tie.spec turned-unit-requires returns returns-2)
+turned-tangent-spec = tie.close (tie.spec (λ c κs. search needs) returns returns-2)

@@ -7,18 +7,6 @@ use borrow.Author.Needs.{needs}
 use Rattle.transform.proofs.influences.add_influence.Statement.{statement}
 use Rattle.transform.proofs.influences.add_influence.Tie as tie
 
-counts-requires : tie.Need-counts-requires
-counts-requires c κs = search needs
-
-mul-load : tie.Need-mul-load
-mul-load c = search needs
-
-load-requires : tie.Need-load-requires
-load-requires c κs = search needs
-
-mat4-madd-requires : tie.Need-mat4-madd-requires
-mat4-madd-requires c κs = search needs
-
 returns : tie.Need-returns
 returns c =
     let a = c .before .before .before .before .before .before .args in
@@ -38,10 +26,10 @@ pub add-influence-spec : {M : Type 1} → statement M
 add-influence-spec =
     tie.close
     (tie.spec
-    counts-requires
-    mul-load
-    load-requires
-    mat4-madd-requires
+    (λ c κs. search needs)
+    (λ c. search needs)
+    (λ c κs. search needs)
+    (λ c κs. search needs)
     returns
     returns-2
     returns-3)

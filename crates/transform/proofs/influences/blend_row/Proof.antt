@@ -22,42 +22,6 @@ loop-holds : tie.Need-loop-holds Inv-loop μ-loop
 unfolding influences
 loop-holds c = (omega arith, blends-none)
 
-mul-wide : tie.Need-mul-wide Inv-loop μ-loop
-mul-wide c = search needs
-
-add-wide : tie.Need-add-wide Inv-loop μ-loop
-add-wide c = search needs
-
-mul-wide-2 : tie.Need-mul-wide-2 Inv-loop μ-loop
-mul-wide-2 c = search needs
-
-shared-slice-read-wide : tie.Need-shared-slice-read-wide Inv-loop μ-loop
-shared-slice-read-wide c = search needs
-
-wide-requires : tie.Need-wide-requires Inv-loop μ-loop
-wide-requires c κs = search needs
-
-mul-add-influence : tie.Need-mul-add-influence Inv-loop μ-loop
-mul-add-influence c = search needs
-
-add-add-influence : tie.Need-add-add-influence Inv-loop μ-loop
-add-add-influence c = search needs
-
-mul-add-influence-2 : tie.Need-mul-add-influence-2 Inv-loop μ-loop
-mul-add-influence-2 c = search needs
-
-shared-slice-read-add-influence : tie.Need-shared-slice-read-add-influence Inv-loop μ-loop
-shared-slice-read-add-influence c = search needs
-
-add-influence-requires : tie.Need-add-influence-requires Inv-loop μ-loop
-add-influence-requires c κs = search needs
-
-add-e : tie.Need-add-e Inv-loop μ-loop
-add-e c = search needs
-
-loop-less : tie.Need-loop-less Inv-loop μ-loop
-loop-less c = search needs
-
 loop-again : tie.Need-loop-again Inv-loop μ-loop
 loop-again c =
     let s = c .before .before .before .before .before .before .before .before .before in
@@ -82,17 +46,17 @@ blend-row-spec =
     Inv-loop
     μ-loop
     loop-holds
-    mul-wide
-    add-wide
-    mul-wide-2
-    shared-slice-read-wide
-    wide-requires
-    mul-add-influence
-    add-add-influence
-    mul-add-influence-2
-    shared-slice-read-add-influence
-    add-influence-requires
-    add-e
-    loop-less
+    (λ c. search needs)
+    (λ c. search needs)
+    (λ c. search needs)
+    (λ c. search needs)
+    (λ c κs. search needs)
+    (λ c. search needs)
+    (λ c. search needs)
+    (λ c. search needs)
+    (λ c. search needs)
+    (λ c κs. search needs)
+    (λ c. search needs)
+    (λ c. search needs)
     loop-again
     returns)

@@ -7,11 +7,8 @@ use borrow.Author.Needs.{needs}
 use Rattle.transform.proofs.influences.counts.Statement.{statement}
 use Rattle.transform.proofs.influences.counts.Tie as tie
 
-is-finite-requires : tie.Need-is-finite-requires
-is-finite-requires c κs = search needs
-
 returns : tie.Need-returns
 returns c = ap (λ (b : Bool). b && lt zero32 (c .before .args .w)) (c .is-finite .ensures)
 
 pub counts-spec : {M : Type 1} → statement M
-counts-spec = tie.close (tie.spec is-finite-requires returns)
+counts-spec = tie.close (tie.spec (λ c κs. search needs) returns)

@@ -7,9 +7,6 @@ use borrow.Author.Needs.{needs}
 use Rattle.transform.proofs.influences.joint_matrix.Statement.{statement}
 use Rattle.transform.proofs.influences.joint_matrix.Tie as tie
 
-blend-row-requires : tie.Need-blend-row-requires
-blend-row-requires c κs = search needs
-
 returns : tie.Need-returns
 returns c =
     let a = c .before .before .before .before .before .before .args in
@@ -26,4 +23,4 @@ returns-3 c =
     no-joints (rowsIn 16 (now (a .palette))) (now (a .joints)) (now (a .weights)) (a .v) (omega arith)
 
 pub joint-matrix-spec : {M : Type 1} → statement M
-joint-matrix-spec = tie.close (tie.spec blend-row-requires returns returns-2 returns-3)
+joint-matrix-spec = tie.close (tie.spec (λ c κs. search needs) returns returns-2 returns-3)

@@ -11,27 +11,6 @@ use borrow.Author.Needs.{needs}
 use Rattle.transform.proofs.rigid.transform_directions.Statement.{statement}
 use Rattle.transform.proofs.rigid.transform_directions.Tie as tie
 
-normal-matrix-requires : tie.Need-normal-matrix-requires
-normal-matrix-requires c κs = search needs
-
-transform-normals-requires : tie.Need-transform-normals-requires
-transform-normals-requires c κs = search needs
-
-linear-part-requires : tie.Need-linear-part-requires
-linear-part-requires c κs = search needs
-
-linear-det-requires : tie.Need-linear-det-requires
-linear-det-requires c κs = search needs
-
-transform-tangents-requires : tie.Need-transform-tangents-requires
-transform-tangents-requires c κs = search needs
-
-same-length : tie.Need-same-length
-same-length c = search needs
-
-same-length-2 : tie.Need-same-length-2
-same-length-2 c = search needs
-
 returns : tie.Need-returns
 returns c =
     let a = c .before .before .before .before .before .before .before .before .before .before .before .before .before .args in
@@ -48,11 +27,11 @@ pub transform-directions-spec : {M : Type 1} → statement M
 transform-directions-spec =
     tie.close
     (tie.spec
-    normal-matrix-requires
-    transform-normals-requires
-    linear-part-requires
-    linear-det-requires
-    transform-tangents-requires
-    same-length
-    same-length-2
+    (λ c κs. search needs)
+    (λ c κs. search needs)
+    (λ c κs. search needs)
+    (λ c κs. search needs)
+    (λ c κs. search needs)
+    (λ c. search needs)
+    (λ c. search needs)
     returns)

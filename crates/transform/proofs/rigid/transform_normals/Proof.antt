@@ -1,70 +1,15 @@
 -- `transform::rigid::transform_normals` meets its contract. Assumes nothing.
-use mathlib.Core.Path.{_≡_, refl, ap, _∙_}
-use Prim.Native.Nat.{_-_, _/_, _≤_}
-use native.Mathlib.Omega.{arith}
 use borrow.Author.Needs.{needs}
-use denote.Ref.{now}
-use lib.ListN.{length}
-use Rattle.model.specs.Lists.{row}
-use Rattle.model.specs.Vertices.{turnedNormal}
-use Rattle.model.proofs.Rowwise.{row-length}
-use Rattle.scene.specs.Values.{linearOf}
-use Rattle.transform.proofs.RowLengths.{normal-length}
-use Rattle.transform.specs.Rows.{firstRows}
-use Rattle.transform.proofs.RowSteps.{next-done, each-done}
+use Rattle.transform.proofs.Turned.{normals-turned, normals-left}
 use Rattle.transform.proofs.rigid.transform_normals.Statement.{statement}
 use Rattle.transform.proofs.rigid.transform_normals.Tie as tie
 
-abbrev Inv-loop : tie.InvT-loop
-Inv-loop l normals₀ n k₀ normals k = (k ≤ n) × (n ≡ length normals₀ / 3) × (length normals ≡ length normals₀) × (normals ≡ firstRows 3 (λ _. turnedNormal (linearOf l)) normals₀ k)
+returns : tie.Need-returns
+returns c = search (needs, normals-turned)
 
-abbrev μ-loop : tie.MeasureT-loop
-μ-loop l normals₀ n k₀ normals k = n - k
-
-loop-holds : tie.Need-loop-holds Inv-loop μ-loop
-unfolding firstRows
-loop-holds c = (omega arith, refl, refl, refl)
-
-turn-normal-requires : tie.Need-turn-normal-requires Inv-loop μ-loop
-turn-normal-requires c κs = search needs
-
-add-k : tie.Need-add-k Inv-loop μ-loop
-add-k c = search needs
-
-loop-less : tie.Need-loop-less Inv-loop μ-loop
-loop-less c = search needs
-
-loop-again : tie.Need-loop-again Inv-loop μ-loop
-loop-again c =
-    let a = c .before .before .before .before .before .before .before .args in
-    let l = c .before .before .before .before .before .loop in (
-      omega arith,
-      l .inv .1,
-      search needs,
-      next-done 3 (λ _. turnedNormal (linearOf (a .l))) (now (a .normals)) _ _ (l .k) (c .before .before .turn-normal .ensures) (l .inv .3),
-    )
-
-same-length : tie.Need-same-length Inv-loop μ-loop
-same-length c = search needs
-
-returns : tie.Need-returns Inv-loop μ-loop
-returns c =
-    let a = c .before .before .before .args in
-    let l = c .before .loop in
-    let f = turnedNormal (linearOf (a .l)) in
-    let e : l .k ≡ length (now (a .normals)) / 3 = omega (arith, c .loop-test .left) in
-    l .inv .3 ∙ ap (firstRows 3 (λ _. f) (now (a .normals))) e ∙ each-done 3 f (now (a .normals)) (λ i h. normal-length (linearOf (a .l)) (row 3 (now (a .normals)) i) (row-length 3 (now (a .normals)) i h))
+returns-2 : tie.Need-returns-2
+returns-2 c = search (needs, normals-left)
 
 pub transform-normals-spec : {M : Type 1} → statement M
 transform-normals-spec =
-    tie.close
-    (tie.spec
-    Inv-loop
-    μ-loop
-    loop-holds
-    turn-normal-requires
-    add-k
-    loop-less
-    loop-again
-    same-length
-    returns)
+    tie.close (tie.spec (λ c. search needs) (λ c κs. search needs) (λ c. search needs) (λ c. search needs) returns returns-2)

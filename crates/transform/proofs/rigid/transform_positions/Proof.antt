@@ -23,15 +23,6 @@ loop-holds : tie.Need-loop-holds Inv-loop μ-loop
 unfolding firstRows
 loop-holds c = (omega arith, refl, refl, refl)
 
-transform-position-requires : tie.Need-transform-position-requires Inv-loop μ-loop
-transform-position-requires c κs = search needs
-
-add-k : tie.Need-add-k Inv-loop μ-loop
-add-k c = search needs
-
-loop-less : tie.Need-loop-less Inv-loop μ-loop
-loop-less c = search needs
-
 loop-again : tie.Need-loop-again Inv-loop μ-loop
 loop-again c =
     let a = c .before .before .before .before .before .before .before .args in
@@ -41,9 +32,6 @@ loop-again c =
       search needs,
       next-done 3 (λ _. transformedPoint (a .m .m)) (now (a .positions)) _ _ (l .k) (c .before .before .transform-position .ensures) (l .inv .3),
     )
-
-same-length : tie.Need-same-length Inv-loop μ-loop
-same-length c = search needs
 
 returns : tie.Need-returns Inv-loop μ-loop
 returns c =
@@ -60,9 +48,9 @@ transform-positions-spec =
     Inv-loop
     μ-loop
     loop-holds
-    transform-position-requires
-    add-k
-    loop-less
+    (λ c κs. search needs)
+    (λ c. search needs)
+    (λ c. search needs)
     loop-again
-    same-length
+    (λ c. search needs)
     returns)

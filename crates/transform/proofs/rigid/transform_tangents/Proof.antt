@@ -25,15 +25,6 @@ loop-holds : tie.Need-loop-holds Inv-loop μ-loop
 unfolding firstRows
 loop-holds c = (omega arith, refl, refl, refl)
 
-turn-tangent-requires : tie.Need-turn-tangent-requires Inv-loop μ-loop
-turn-tangent-requires c κs = search needs
-
-add-k : tie.Need-add-k Inv-loop μ-loop
-add-k c = search needs
-
-loop-less : tie.Need-loop-less Inv-loop μ-loop
-loop-less c = search needs
-
 loop-again : tie.Need-loop-again Inv-loop μ-loop
 loop-again c =
     let a = c .before .before .before .before .before .before .before .args in
@@ -43,9 +34,6 @@ loop-again c =
       search needs,
       next-done 4 (λ _. tangentBy (mat3 (a .l)) (a .mirror)) (now (a .tangents)) _ _ (l .k) (c .before .before .turn-tangent .ensures) (l .inv .3),
     )
-
-same-length : tie.Need-same-length Inv-loop μ-loop
-same-length c = search needs
 
 returns : tie.Need-returns Inv-loop μ-loop
 returns c =
@@ -62,9 +50,9 @@ transform-tangents-spec =
     Inv-loop
     μ-loop
     loop-holds
-    turn-tangent-requires
-    add-k
-    loop-less
+    (λ c κs. search needs)
+    (λ c. search needs)
+    (λ c. search needs)
     loop-again
-    same-length
+    (λ c. search needs)
     returns)

@@ -4,21 +4,6 @@ use borrow.Author.Needs.{needs}
 use Rattle.transform.proofs.rigid.transformed.Statement.{statement}
 use Rattle.transform.proofs.rigid.transformed.Tie as tie
 
-transform-positions-requires : tie.Need-transform-positions-requires
-transform-positions-requires c κs = search needs
-
-transform-directions-requires : tie.Need-transform-directions-requires
-transform-directions-requires c κs = search needs
-
-same-length : tie.Need-same-length
-same-length c = search needs
-
-same-length-2 : tie.Need-same-length-2
-same-length-2 c = search needs
-
-same-length-3 : tie.Need-same-length-3
-same-length-3 c = search needs
-
 returns : tie.Need-returns
 unfolding transformed
 returns c =
@@ -29,9 +14,9 @@ pub transformed-spec : {M : Type 1} → statement M
 transformed-spec =
     tie.close
     (tie.spec
-    transform-positions-requires
-    transform-directions-requires
-    same-length
-    same-length-2
-    same-length-3
+    (λ c κs. search needs)
+    (λ c κs. search needs)
+    (λ c. search needs)
+    (λ c. search needs)
+    (λ c. search needs)
     returns)

@@ -5,21 +5,6 @@ use borrow.Author.Needs.{needs}
 use Rattle.transform.proofs.skinning.skin_vertex.Statement.{statement}
 use Rattle.transform.proofs.skinning.skin_vertex.Tie as tie
 
-skin-position-requires : tie.Need-skin-position-requires
-skin-position-requires c κs = search needs
-
-skin-directions-requires : tie.Need-skin-directions-requires
-skin-directions-requires c κs = search needs
-
-same-length : tie.Need-same-length
-same-length c = search needs
-
-same-length-2 : tie.Need-same-length-2
-same-length-2 c = search needs
-
-same-length-3 : tie.Need-same-length-3
-same-length-3 c = search needs
-
 returns : tie.Need-returns
 returns c =
     let a = c .before .before .before .before .before .before .before .before .before .before .before .before .before .before .before .before .args in
@@ -34,10 +19,10 @@ pub skin-vertex-spec : {M : Type 1} → statement M
 skin-vertex-spec =
     tie.close
     (tie.spec
-    skin-position-requires
-    skin-directions-requires
-    same-length
-    same-length-2
-    same-length-3
+    (λ c κs. search needs)
+    (λ c κs. search needs)
+    (λ c. search needs)
+    (λ c. search needs)
+    (λ c. search needs)
     returns
     returns-2)

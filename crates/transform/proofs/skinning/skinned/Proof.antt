@@ -27,18 +27,6 @@ loop-holds c =
     let a = c .before .before .before .before .before .before .args in
     (omega arith, refl, refl, refl, refl, none-moved (rowsIn 16 (now (a .palette))) (rowsIn 4 (now (a .joints))) (rowsIn 4 (now (a .weights))) _ (now (a .positions)) (now (a .normals)) (now (a .tangents)))
 
-joint-matrix-requires : tie.Need-joint-matrix-requires Inv-loop μ-loop
-joint-matrix-requires c κs = search needs
-
-skin-vertex-requires : tie.Need-skin-vertex-requires Inv-loop μ-loop
-skin-vertex-requires c κs = search needs
-
-add-v : tie.Need-add-v Inv-loop μ-loop
-add-v c = search needs
-
-loop-less : tie.Need-loop-less Inv-loop μ-loop
-loop-less c = search needs
-
 loop-again : tie.Need-loop-again Inv-loop μ-loop
 loop-again c =
     let a = c .before .before .before .before .before .before .before .before .before .before .before .before .before .before .before .before .before .before .before .args in
@@ -51,15 +39,6 @@ loop-again c =
       next-moved (rowsIn 16 (now (a .palette))) (rowsIn 4 (now (a .joints))) (rowsIn 4 (now (a .weights))) _ (now (a .positions)) (now (a .normals)) (now (a .tangents)) (l .v) _ _ _ _ _ _ _
           (omega arith) (c .before .before .before .before .before .before .before .before .before .before .joint-matrix .ensures) (l .inv .5) (c .before .before .before .before .before .before .skin-vertex .ensures),
     )
-
-same-length : tie.Need-same-length Inv-loop μ-loop
-same-length c = search needs
-
-same-length-2 : tie.Need-same-length-2 Inv-loop μ-loop
-same-length-2 c = search needs
-
-same-length-3 : tie.Need-same-length-3 Inv-loop μ-loop
-same-length-3 c = search needs
 
 returns : tie.Need-returns Inv-loop μ-loop
 returns c =
@@ -77,12 +56,12 @@ skinned-spec =
     Inv-loop
     μ-loop
     loop-holds
-    joint-matrix-requires
-    skin-vertex-requires
-    add-v
-    loop-less
+    (λ c κs. search needs)
+    (λ c κs. search needs)
+    (λ c. search needs)
+    (λ c. search needs)
     loop-again
-    same-length
-    same-length-2
-    same-length-3
+    (λ c. search needs)
+    (λ c. search needs)
+    (λ c. search needs)
     returns)
