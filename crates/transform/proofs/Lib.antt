@@ -4,3 +4,4 @@ pub mod RowLengths
 pub mod Turned
 pub mod Blended
 pub mod Moved
+pub mod Plain

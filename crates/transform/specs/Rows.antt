@@ -1,15 +1,16 @@
 -- Rows of a slice that are changed one by one, and tangents. Definitions only.
 use mathlib.Core.Path.{_≡_}
 use mathlib.Core.List.{List, [], _∷_, _++_, map}
-use mathlib.Core.Bool.{Bool}
+use mathlib.Core.Bool.{Bool, _&&_}
 use Prim.Native.Nat.{ℕ, zero, suc, _*_, _/_}
 use lib.Dec.{ltb}
-use lib.Ieee.{Float, neg}
+use lib.Ieee.{Float, neg, eq}
 use lib.ListN.{length, take}
 use lib.Seq.{paste}
+use Rattle.float.specs.F32.{zero32, one32}
 use Rattle.model.specs.Lists.{pick, row, rowsIn}
 use Rattle.model.specs.Vector.{Vector, at}
-use Rattle.model.specs.Matrix.{Matrix}
+use Rattle.model.specs.Matrix.{Matrix, entry}
 use Rattle.model.specs.Inverse.{normalMatrix}
 use Rattle.model.specs.Vertices.{turnedUnit, turnedNormal, turnedTangent}
 use Rattle.model.specs.Attributes.{overRows}
@@ -21,6 +22,10 @@ tangent t = t .direction .x ∷ t .direction .y ∷ t .direction .z ∷ t .hande
 -- x, y and z of a tangent by a linear part, which may mirror
 unfoldable pub tangentBy : List Float → Bool → Vector → Vector
 tangentBy l mirror v = turnedUnit l (take 3 v) ++ (pick mirror (neg (at v 3)) (at v 3) ∷ [])
+
+-- the bottom row is (0, 0, 0, 1)
+unfoldable pub hasPlainBottom : Matrix → Bool
+hasPlainBottom m = eq (entry m 3 0) zero32 && eq (entry m 3 1) zero32 && eq (entry m 3 2) zero32 && eq (entry m 3 3) one32
 
 -- a slice with row k changed, if it has that row
 unfoldable pub rowChanged : ℕ → (Vector → Vector) → ℕ → List Float → List Float

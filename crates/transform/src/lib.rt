@@ -3,6 +3,7 @@
 // are.
 mod directions;
 mod influences;
+mod positions;
 mod rigid;
 mod rows;
 mod skinning;

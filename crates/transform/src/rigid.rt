@@ -1,38 +1,16 @@
 use crate::directions::turn_tangent;
 use crate::directions::turn_unit;
-use crate::rows::load3;
-use crate::rows::store3;
+use crate::positions::transform_positions;
 use scene::Linear;
 use scene::Mat3;
 use scene::Mat4;
 ghost use mathlib.Core.Path.{_≡_};
 ghost use mathlib.Core.List.{map};
 ghost use Rattle.model.specs.Lists.{rowsIn};
-ghost use Rattle.model.specs.Vertices.{transformedPoint, turnedUnit, turnedNormal, transformed};
+ghost use Rattle.model.specs.Vertices.{turnedUnit, turnedNormal, transformed};
 ghost use Rattle.model.specs.Attributes.{attributesIn, overRows, Reshaped};
 ghost use Rattle.scene.specs.Values.{mat3, linearOf};
-ghost use Rattle.transform.specs.Rows.{tangentBy, rowChanged, TurnedAll};
-
-// Moves position k, if there is one.
-fn transform_position(m: Mat4, positions: &mut [f32], k: usize)
-    ensures { λ _. ⌜ now (positions .exit) ≡ rowChanged 3 (transformedPoint (m .m)) k (now (positions .entry)) ⌝ }
-{
-    if k < positions.len() / 3 {
-        let p = load3(positions, k * 3);
-        store3(positions, k * 3, scene::transform_point(m, p));
-    }
-}
-
-fn transform_positions(m: Mat4, positions: &mut [f32])
-    ensures { λ _. ⌜ now (positions .exit) ≡ overRows 3 (map (transformedPoint (m .m)) (rowsIn 3 (now (positions .entry)))) (now (positions .entry)) ⌝ }
-{
-    let n = positions.len() / 3;
-    let mut k = 0usize;
-    while k < n {
-        transform_position(m, positions, k);
-        k += 1;
-    }
-}
+ghost use Rattle.transform.specs.Rows.{tangentBy, TurnedAll};
 
 // Turns all normals by l.
 fn turn_units(l: Mat3, normals: &mut [f32])

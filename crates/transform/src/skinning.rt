@@ -2,26 +2,12 @@ use crate::directions::turn_normal;
 use crate::directions::turn_tangent;
 use crate::influences::Blend;
 use crate::influences::joint_matrix;
-use crate::rows::load3;
-use crate::rows::store3;
+use crate::positions::move_position;
 use scene::Mat4;
-ghost use mathlib.Core.Path.{_≡_};
-ghost use mathlib.Core.Option.{some};
 ghost use Rattle.model.specs.Lists.{rowsIn};
-ghost use Rattle.model.specs.Vertices.{affinePoint, skinned};
+ghost use Rattle.model.specs.Vertices.{skinned};
 ghost use Rattle.model.specs.Attributes.{attributesIn, Reshaped};
-ghost use Rattle.transform.specs.Rows.{rowChanged};
 ghost use Rattle.transform.specs.Blending.{blended, Turned, Skinned};
-
-// Moves position v, if there is one, with no perspective division.
-fn skin_position(m: Mat4, positions: &mut [f32], v: usize)
-    ensures { λ _. ⌜ now (positions .exit) ≡ rowChanged 3 (affinePoint (m .m)) v (now (positions .entry)) ⌝ }
-{
-    if v < positions.len() / 3 {
-        let p = load3(positions, v * 3);
-        store3(positions, v * 3, scene::affine_point(m, p));
-    }
-}
 
 // Turns normal and tangent v, if there are any.
 fn skin_directions(m: Mat4, normals: &mut [f32], tangents: &mut [f32], v: usize)
@@ -42,7 +28,7 @@ fn skin_vertex(b: Blend, positions: &mut [f32], normals: &mut [f32], tangents: &
 {
     if b.any {
         let m = b.matrix;
-        skin_position(m, positions, v);
+        move_position(m, positions, v);
         skin_directions(m, normals, tangents, v);
     }
 }

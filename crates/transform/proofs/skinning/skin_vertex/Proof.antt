@@ -8,7 +8,7 @@ use Rattle.transform.proofs.skinning.skin_vertex.Tie as tie
 returns : tie.Need-returns
 returns c =
     let a = c .before .before .before .before .before .before .before .before .before .before .before .before .before .before .before .before .args in
-    by-joints (a .b) (a .v) (now (a .positions)) (now (a .normals)) (now (a .tangents)) _ _ _ (c .before .before .before .before .before .before .before .before .before .before .before .before .if1 .taken) (c .before .before .before .before .before .before .before .before .before .skin-position .ensures) (c .before .before .before .before .skin-directions .ensures)
+    by-joints (a .b) (a .v) (now (a .positions)) (now (a .normals)) (now (a .tangents)) _ _ _ (c .before .before .before .before .before .before .before .before .before .before .before .before .if1 .taken) (c .before .before .before .before .before .before .before .before .before .move-position .ensures) (c .before .before .before .before .skin-directions .ensures)
 
 returns-2 : tie.Need-returns-2
 returns-2 c =

@@ -1,4 +1,4 @@
--- `transform::rigid::transform_positions` meets its contract. Assumes nothing.
+-- `transform::positions::project_positions` meets its contract. Assumes nothing.
 use mathlib.Core.Path.{_≡_, refl, ap, _∙_}
 use Prim.Native.Nat.{_-_, _/_, _≤_}
 use native.Mathlib.Omega.{arith}
@@ -10,8 +10,8 @@ use Rattle.model.specs.Vertices.{transformedPoint}
 use Rattle.transform.proofs.RowLengths.{point-length}
 use Rattle.transform.specs.Rows.{firstRows}
 use Rattle.transform.proofs.RowSteps.{next-done, each-done}
-use Rattle.transform.proofs.rigid.transform_positions.Statement.{statement}
-use Rattle.transform.proofs.rigid.transform_positions.Tie as tie
+use Rattle.transform.proofs.positions.project_positions.Statement.{statement}
+use Rattle.transform.proofs.positions.project_positions.Tie as tie
 
 abbrev Inv-loop : tie.InvT-loop
 Inv-loop m positions₀ n k₀ positions k = (k ≤ n) × (n ≡ length positions₀ / 3) × (length positions ≡ length positions₀) × (positions ≡ firstRows 3 (λ _. transformedPoint (m .m)) positions₀ k)
@@ -30,7 +30,7 @@ loop-again c =
       omega arith,
       l .inv .1,
       search needs,
-      next-done 3 (λ _. transformedPoint (a .m .m)) (now (a .positions)) _ _ (l .k) (c .before .before .transform-position .ensures) (l .inv .3),
+      next-done 3 (λ _. transformedPoint (a .m .m)) (now (a .positions)) _ _ (l .k) (c .before .before .project-position .ensures) (l .inv .3),
     )
 
 returns : tie.Need-returns Inv-loop μ-loop
@@ -41,8 +41,8 @@ returns c =
     let e : l .k ≡ length (now (a .positions)) / 3 = omega (arith, c .loop-test .left) in
     l .inv .3 ∙ ap (firstRows 3 (λ _. f) (now (a .positions))) e ∙ each-done 3 f (now (a .positions)) (λ i h. point-length (a .m .m) (row 3 (now (a .positions)) i))
 
-pub transform-positions-spec : {M : Type 1} → statement M
-transform-positions-spec =
+pub project-positions-spec : {M : Type 1} → statement M
+project-positions-spec =
     tie.close
     (tie.spec
     Inv-loop

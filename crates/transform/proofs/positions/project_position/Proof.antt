@@ -1,8 +1,8 @@
--- `transform::skinning::skin_position` meets its contract. Assumes nothing.
+-- `transform::positions::project_position` meets its contract. Assumes nothing.
 use Rattle.transform.proofs.RowSteps.{row-changed, row-absent}
 use borrow.Author.Needs.{needs}
-use Rattle.transform.proofs.skinning.skin_position.Statement.{statement}
-use Rattle.transform.proofs.skinning.skin_position.Tie as tie
+use Rattle.transform.proofs.positions.project_position.Statement.{statement}
+use Rattle.transform.proofs.positions.project_position.Tie as tie
 
 returns : tie.Need-returns
 returns c = search (needs, row-changed)
@@ -10,8 +10,8 @@ returns c = search (needs, row-changed)
 returns-2 : tie.Need-returns-2
 returns-2 c = search (needs, row-absent)
 
-pub skin-position-spec : {M : Type 1} → statement M
-skin-position-spec =
+pub project-position-spec : {M : Type 1} → statement M
+project-position-spec =
     tie.close
     (tie.spec
     (λ c. search needs)
