@@ -1,6 +1,8 @@
 pub mod RowAccess
 pub mod RowSteps
 pub mod RowLengths
+pub mod Blocked
+pub mod Handed
 pub mod Turned
 pub mod Blended
 pub mod Moved

@@ -12,6 +12,8 @@ use Rattle.model.specs.Vertices.{turnedUnit, turnedNormal}
 use Rattle.model.specs.Attributes.{overRows}
 use Rattle.transform.specs.Rows.{tangentBy, rowChanged}
 use Rattle.transform.proofs.RowSteps.{row-kept, each-kept}
+use Rattle.transform.specs.Blocks.{xyzTurned}
+use Rattle.transform.proofs.Handed.{rows-alike, three}
 use Rattle.scene.specs.Values.{vec3, mat3, unitOf, linearOf}
 use Rattle.scene.specs.declared.Vec3.{Vec3}
 use Rattle.scene.specs.declared.Mat3.{Mat3}
@@ -40,8 +42,11 @@ module _ (n : Linear) (lent : List Float) where
   pub normal-left : (k : ℕ) → n ≡ linear.None → lent ≡ rowChanged 3 (turnedNormal (linearOf n)) k lent
   normal-left k e = row-kept 3 k lent ∙ sym (ap (λ (x : Linear). rowChanged 3 (turnedNormal (linearOf x)) k lent) e)
 
-  pub normals-turned : (l : Mat3) (left : List Float) → n ≡ linear.Of l → left ≡ overRows 3 (map (turnedUnit (mat3 l)) (rowsIn 3 lent)) lent → left ≡ overRows 3 (map (turnedNormal (linearOf n)) (rowsIn 3 lent)) lent
-  normals-turned l left e p = p ∙ sym (ap (λ (x : Linear). overRows 3 (map (turnedNormal (linearOf x)) (rowsIn 3 lent)) lent) e)
+  pub normals-turned : (l : Mat3) (left : List Float) → n ≡ linear.Of l → left ≡ overRows 3 (map (xyzTurned (mat3 l)) (rowsIn 3 lent)) lent → left ≡ overRows 3 (map (turnedNormal (linearOf n)) (rowsIn 3 lent)) lent
+  normals-turned l left e p =
+      p
+      ∙ ap (λ (r : List Vector). overRows 3 r lent) (rows-alike 3 (xyzTurned (mat3 l)) (turnedUnit (mat3 l)) lent (three (mat3 l)))
+      ∙ sym (ap (λ (x : Linear). overRows 3 (map (turnedNormal (linearOf x)) (rowsIn 3 lent)) lent) e)
 
   pub normals-left : n ≡ linear.None → lent ≡ overRows 3 (map (turnedNormal (linearOf n)) (rowsIn 3 lent)) lent
   normals-left e = each-kept 3 lent ∙ sym (ap (λ (x : Linear). overRows 3 (map (turnedNormal (linearOf x)) (rowsIn 3 lent)) lent) e)

@@ -1,6 +1,7 @@
 // Vertices in lent flat slices, changed in place: the port of transform.rs's `transformed` and skinning.rs's
 // `Primitive::skinned`. Three floats a position or a normal, four a tangent; floats past the last whole row stay as they
 // are.
+mod blocks;
 mod directions;
 mod influences;
 mod positions;

@@ -1,36 +1,58 @@
-use crate::directions::turn_tangent;
-use crate::directions::turn_unit;
+use crate::blocks::turn_rows;
 use crate::positions::transform_positions;
+use crate::rows::Tangent;
+use crate::rows::load4;
+use crate::rows::store4;
 use scene::Linear;
 use scene::Mat3;
 use scene::Mat4;
 ghost use mathlib.Core.Path.{_≡_};
 ghost use mathlib.Core.List.{map};
 ghost use Rattle.model.specs.Lists.{rowsIn};
-ghost use Rattle.model.specs.Vertices.{turnedUnit, turnedNormal, transformed};
+ghost use Rattle.model.specs.Vertices.{turnedNormal, transformed};
 ghost use Rattle.model.specs.Attributes.{attributesIn, overRows, Reshaped};
 ghost use Rattle.scene.specs.Values.{mat3, linearOf};
-ghost use Rattle.transform.specs.Rows.{tangentBy, TurnedAll};
-
-// Turns all normals by l.
-fn turn_units(l: Mat3, normals: &mut [f32])
-    ensures { λ _. ⌜ now (normals .exit) ≡ overRows 3 (map (turnedUnit (mat3 l)) (rowsIn 3 (now (normals .entry)))) (now (normals .entry)) ⌝ }
-{
-    let n = normals.len() / 3;
-    let mut k = 0usize;
-    while k < n {
-        turn_unit(l, normals, k);
-        k += 1;
-    }
-}
+ghost use Rattle.transform.specs.Rows.{tangent, tangentBy, rowChanged, TurnedAll};
+ghost use Rattle.transform.specs.Blocks.{flipped};
 
 // Turns all normals by the normal matrix, if there is one.
 fn transform_normals(n: Linear, normals: &mut [f32])
     ensures { λ _. ⌜ now (normals .exit) ≡ overRows 3 (map (turnedNormal (linearOf n)) (rowsIn 3 (now (normals .entry)))) (now (normals .entry)) ⌝ }
 {
     match n {
-        Linear::Of(l) => turn_units(l, normals),
+        Linear::Of(l) => turn_rows(l, 3, normals),
         Linear::None => {}
+    }
+}
+
+fn flip(t: Tangent) -> Tangent
+    ensures { λ r. ⌜ tangent r ≡ flipped (tangent t) ⌝ }
+{
+    let direction = t.direction;
+    Tangent {
+        direction,
+        handedness: -t.handedness,
+    }
+}
+
+// Flips the handedness of tangent k, if there is one.
+fn flip_tangent(tangents: &mut [f32], k: usize)
+    ensures { λ _. ⌜ now (tangents .exit) ≡ rowChanged 4 flipped k (now (tangents .entry)) ⌝ }
+{
+    if k < tangents.len() / 4 {
+        let t = load4(tangents, k * 4);
+        store4(tangents, k * 4, flip(t));
+    }
+}
+
+fn flip_tangents(tangents: &mut [f32])
+    ensures { λ _. ⌜ now (tangents .exit) ≡ overRows 4 (map flipped (rowsIn 4 (now (tangents .entry)))) (now (tangents .entry)) ⌝ }
+{
+    let n = tangents.len() / 4;
+    let mut k = 0usize;
+    while k < n {
+        flip_tangent(tangents, k);
+        k += 1;
     }
 }
 
@@ -38,12 +60,11 @@ fn transform_normals(n: Linear, normals: &mut [f32])
 fn transform_tangents(l: Mat3, mirror: bool, tangents: &mut [f32])
     ensures { λ _. ⌜ now (tangents .exit) ≡ overRows 4 (map (tangentBy (mat3 l) mirror) (rowsIn 4 (now (tangents .entry)))) (now (tangents .entry)) ⌝ }
 {
-    let n = tangents.len() / 4;
-    let mut k = 0usize;
-    while k < n {
-        turn_tangent(l, mirror, tangents, k);
-        k += 1;
+    turn_rows(l, 4, tangents);
+    if !mirror {
+        return;
     }
+    flip_tangents(tangents);
 }
 
 fn transform_directions(m: Mat4, normals: &mut [f32], tangents: &mut [f32])

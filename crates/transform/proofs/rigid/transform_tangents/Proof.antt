@@ -1,58 +1,22 @@
 -- `transform::rigid::transform_tangents` meets its contract. Assumes nothing.
-use mathlib.Core.Path.{_≡_, refl, ap, _∙_}
-use Prim.Native.Nat.{_-_, _/_, _≤_}
-use native.Mathlib.Omega.{arith}
 use borrow.Author.Needs.{needs}
-use denote.Ref.{now}
-use lib.ListN.{length}
-use Rattle.model.specs.Lists.{row}
-use Rattle.model.proofs.Rowwise.{row-length}
-use Rattle.scene.specs.Values.{mat3}
-use Rattle.transform.specs.Rows.{tangentBy}
-use Rattle.transform.proofs.RowLengths.{tangent-length}
-use Rattle.transform.specs.Rows.{firstRows}
-use Rattle.transform.proofs.RowSteps.{next-done, each-done}
+use Rattle.transform.proofs.Handed.{tangents-turned, tangents-flipped}
 use Rattle.transform.proofs.rigid.transform_tangents.Statement.{statement}
 use Rattle.transform.proofs.rigid.transform_tangents.Tie as tie
 
-abbrev Inv-loop : tie.InvT-loop
-Inv-loop l mirror tangents₀ n k₀ tangents k = (k ≤ n) × (n ≡ length tangents₀ / 4) × (length tangents ≡ length tangents₀) × (tangents ≡ firstRows 4 (λ _. tangentBy (mat3 l) mirror) tangents₀ k)
+returns : tie.Need-returns
+returns c = search (needs, tangents-turned)
 
-abbrev μ-loop : tie.MeasureT-loop
-μ-loop l mirror tangents₀ n k₀ tangents k = n - k
-
-loop-holds : tie.Need-loop-holds Inv-loop μ-loop
-unfolding firstRows
-loop-holds c = (omega arith, refl, refl, refl)
-
-loop-again : tie.Need-loop-again Inv-loop μ-loop
-loop-again c =
-    let a = c .before .before .before .before .before .before .before .args in
-    let l = c .before .before .before .before .before .loop in (
-      omega arith,
-      l .inv .1,
-      search needs,
-      next-done 4 (λ _. tangentBy (mat3 (a .l)) (a .mirror)) (now (a .tangents)) _ _ (l .k) (c .before .before .turn-tangent .ensures) (l .inv .3),
-    )
-
-returns : tie.Need-returns Inv-loop μ-loop
-returns c =
-    let a = c .before .before .before .args in
-    let l = c .before .loop in
-    let f = tangentBy (mat3 (a .l)) (a .mirror) in
-    let e : l .k ≡ length (now (a .tangents)) / 4 = omega (arith, c .loop-test .left) in
-    l .inv .3 ∙ ap (firstRows 4 (λ _. f) (now (a .tangents))) e ∙ each-done 4 f (now (a .tangents)) (λ i h. tangent-length (mat3 (a .l)) (a .mirror) (row 4 (now (a .tangents)) i) (row-length 4 (now (a .tangents)) i h))
+returns-2 : tie.Need-returns-2
+returns-2 c = search (needs, tangents-flipped)
 
 pub transform-tangents-spec : {M : Type 1} → statement M
 transform-tangents-spec =
     tie.close
     (tie.spec
-    Inv-loop
-    μ-loop
-    loop-holds
     (λ c κs. search needs)
     (λ c. search needs)
+    returns
+    (λ c κs. search needs)
     (λ c. search needs)
-    loop-again
-    (λ c. search needs)
-    returns)
+    returns-2)
