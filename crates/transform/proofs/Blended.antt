@@ -11,7 +11,7 @@ use lib.Ieee.Scale.{finite}
 use lib.ListN.{length, getD, getElem?, take, drop, replicate}
 use lib.Seq.{getD-take, getD-drop, take-all}
 use Rattle.float.specs.F32.{zero32}
-use Rattle.model.specs.Lists.{pick, foldl, isSome, andThen, tabulate, row, rowsIn}
+use Rattle.model.specs.Lists.{pick, foldl, isSome, andThen, row, rowsIn}
 use Rattle.model.specs.Vector.{Vector, _⊙_, _⊞_}
 use Rattle.model.specs.Matrix.{Matrix}
 use Rattle.model.specs.Vertices.{Influence, counted, influences, mixture, jointMatrix}

@@ -15,8 +15,8 @@ use lib.ListN.{length, getD, take, drop, take-append-drop, length-append, length
 use lib.Seq.{paste, take-all, take-take, drop-drop, drop-paste, drop-append-le}
 use Rattle.float.specs.F32.{zero32}
 use Rattle.float.specs.Sqrt.{sqrtOf}
-use Rattle.model.specs.Lists.{pick, orElse, tabulate, part, row, rowsIn}
-use Rattle.model.specs.Vector.{Vector, over, norm, normalized, dot}
+use Rattle.model.specs.Lists.{pick, orElse, part, row, rowsIn}
+use Rattle.model.specs.Vector.{Vector, over, norm, normalized}
 use Rattle.model.specs.Matrix.{turned}
 use Rattle.model.specs.Vertices.{turnedUnit}
 use Rattle.model.specs.Attributes.{overRows}

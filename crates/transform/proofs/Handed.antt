@@ -2,12 +2,12 @@
 use mathlib.Core.Path.{_≡_, refl, sym, ap, _∙_}
 use mathlib.Core.Bool.{Bool, true, false, not}
 use mathlib.Core.List.{List, [], _∷_, _++_, map, append-nil}
-use Prim.Native.Nat.{ℕ, _+_, _/_, _<_, _≤_}
+use Prim.Native.Nat.{ℕ, _+_, _/_}
 use native.Mathlib.Omega.{arith}
 use lib.Ieee.{Float, nan, neg}
 use lib.ListN.{length, getD, take, drop, length-append, length-take}
 use lib.Seq.{take-all, take-at, drop-length, getD-append-seam}
-use Rattle.model.specs.Lists.{pick, tabulate, row, rowsIn}
+use Rattle.model.specs.Lists.{tabulate, row, rowsIn}
 use Rattle.model.specs.Vector.{Vector, at}
 use Rattle.model.specs.Vertices.{turnedUnit}
 use Rattle.model.specs.Attributes.{overRows}

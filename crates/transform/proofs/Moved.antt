@@ -3,13 +3,10 @@ use mathlib.Core.Path.{_≡_, refl, sym, ap, _∙_}
 use mathlib.Core.Bool.{Bool, true, false}
 use mathlib.Core.Option.{Option, none, some}
 use mathlib.Core.List.{List}
-use Prim.Native.Nat.{ℕ, _+_, _*_, _/_, _≤_, _<_}
-use native.Mathlib.Numerals.{add-one}
-use native.Mathlib.Omega.{arith}
+use Prim.Native.Nat.{ℕ, _+_, _/_, _<_}
 use borrow.Author.Tests.{lt-ltb, le-ltb}
 use lib.Dec.{ltb}
 use lib.Ieee.{Float, lt}
-use lib.Ieee as Ieee
 use lib.ListN.{length}
 use Rattle.float.specs.F32.{zero32}
 use Rattle.model.specs.Lists.{pick, indexed, rowsIn, row}
@@ -35,11 +32,11 @@ turned-length : (m : Matrix) (v : Vector) → length v ≡ 4 → length (turnedT
 unfolding tangentBy turnedTangent
 turned-length m v h = tangent-length (linear m) (lt (determinant m) zero32) v h
 
-pub turned-by : (m : Matrix) (v : ℕ) (ln n lt t : List Float) (l : Linear) (k : List Float) (d : Float) → linearOf l ≡ inverseTranspose m → k ≡ linear m → d ≡ determinant m
-    → n ≡ rowChanged 3 (turnedNormal (linearOf l)) v ln → t ≡ rowChanged 4 (tangentBy k (Ieee.lt d zero32)) v lt → Turned m v ln n lt t
-turned-by m v ln n lt t l k d i p q e f = record {
-  normals = e ∙ ap (λ (o : Option (List Float)). rowChanged 3 (turnedNormal o) v ln) i;
-  tangents = f ∙ ap (λ (g : Vector → Vector). rowChanged 4 g v lt) (tangent-by m k d p q);
+pub turned-by : (m : Matrix) (v : ℕ) (normals n tangents t : List Float) (l : Linear) (k : List Float) (d : Float) → linearOf l ≡ inverseTranspose m → k ≡ linear m → d ≡ determinant m
+    → n ≡ rowChanged 3 (turnedNormal (linearOf l)) v normals → t ≡ rowChanged 4 (tangentBy k (lt d zero32)) v tangents → Turned m v normals n tangents t
+turned-by m v normals n tangents t l k d i p q e f = record {
+  normals = e ∙ ap (λ (o : Option (List Float)). rowChanged 3 (turnedNormal o) v normals) i;
+  tangents = f ∙ ap (λ (g : Vector → Vector). rowChanged 4 g v tangents) (tangent-by m k d p q);
 }
 
 -- ---- one vertex

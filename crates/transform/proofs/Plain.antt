@@ -1,21 +1,20 @@
 -- A matrix whose bottom row is (0, 0, 0, 1) moves points with no division: the row times a point is 1, or NaN where the point is not
 -- finite. Assumes nothing.
 use mathlib.Core.Path.{_≡_, refl, sym, ap, subst, _∙_}
-use mathlib.Core.Bool.{Bool, true, false, not, _&&_, false≢true, cond}
-use mathlib.Core.Logic.{_⊎_, inl, inr}
+use mathlib.Core.Bool.{Bool, true, false, _&&_, false≢true, cond}
 use mathlib.Core.List.{List, [], _∷_, map, zipWith}
 use Prim.Native.Nat.{ℕ, zero, suc, _+_, _-_, _*_, _<_}
-use native.Mathlib.Nat.{mul-pos, zero-mul, mul-zero, mul-one}
+use native.Mathlib.Nat.{mul-pos, zero-mul, mul-one}
 use native.Mathlib.Omega.{arith}
 use borrow.Author.Tests.{eqb-true, eq-eqb, lt-ltb}
 use lib.Dec.{eqb, ltb}
 use lib.IntN.{ℤ, pos}
 use lib.Ieee.{Float, nan, inf, fin, binary32, add, mul, eq, round, sum, units, size, span, climb, odd, ofBits, ofFields, unlike, up, down}
-use lib.Ieee.Scale.{finite, round-same}
+use lib.Ieee.Scale.{round-same}
 use lib.Ieee.Fits.{up-pos, down-pos}
 use Rattle.float.specs.F32.{_⊕_, _⊗_, zero32, one32}
 use Rattle.model.specs.Lists.{foldl, rowsIn}
-use Rattle.model.specs.Vector.{Vector, total, dot, over}
+use Rattle.model.specs.Vector.{Vector, total, dot}
 use Rattle.model.specs.Matrix.{Matrix, entry, moved}
 use Rattle.model.specs.Vertices.{affinePoint, divided, transformedPoint}
 use Rattle.model.specs.Attributes.{overRows}

@@ -1,10 +1,10 @@
 -- Three or four floats of a slice, read and written. Assumes nothing.
-use mathlib.Core.Path.{_≡_, refl, sym, ap, _∙_}
+use mathlib.Core.Path.{_≡_, sym, _∙_}
 use mathlib.Core.List.{List, [], _∷_, _++_}
 use Prim.Native.Nat.{ℕ, suc, _+_, _≤_}
 use native.Mathlib.Omega.{arith}
 use lib.Ieee.{Float, nan}
-use lib.ListN.{length, getD, take, drop, set, length-drop}
+use lib.ListN.{length, getD, drop, set, length-drop}
 use lib.Seq.{paste, sets-eq, take-suc, getD-drop}
 use Rattle.model.specs.Lists.{part}
 use Rattle.model.specs.Vector.{Vector}

@@ -1,9 +1,9 @@
 -- Rows keep their length when vertices are moved and turned. Assumes nothing.
 use mathlib.Core.Path.{_≡_, refl}
 use mathlib.Core.Bool.{Bool, true, false, not, _&&_}
-use mathlib.Core.List.{List, [], _∷_, _++_, map}
+use mathlib.Core.List.{List, [], _∷_}
 use mathlib.Core.Option.{Option, none, some}
-use Prim.Native.Nat.{ℕ, _+_, min}
+use Prim.Native.Nat.{ℕ}
 use native.Mathlib.Omega.{arith}
 use lib.Ieee.{Float, neg, lt, eq}
 use lib.Ieee.Scale.{finite}
@@ -12,7 +12,7 @@ use Rattle.float.specs.F32.{zero32, one32}
 use Rattle.model.specs.Lists.{pick, orElse}
 use Rattle.model.specs.Vector.{Vector, at, over, norm, normalized}
 use Rattle.model.specs.Matrix.{Matrix, turned, moved}
-use Rattle.model.specs.Vertices.{affinePoint, turnedUnit, turnedNormal, turnedTangent, divided, transformedPoint, byMatrix}
+use Rattle.model.specs.Vertices.{turnedUnit, turnedNormal, divided, transformedPoint, byMatrix}
 use Rattle.transform.specs.Rows.{tangentBy}
 
 pub point-length : (m : Matrix) (p : Vector) → length (transformedPoint m p) ≡ 3

@@ -1,7 +1,7 @@
 -- A slice whose rows are changed one after the other, and what it then is. Assumes nothing.
 use mathlib.Core.Path.{_≡_, refl, sym, ap, _∙_}
 use mathlib.Core.Bool.{Bool, true, false}
-use mathlib.Core.List.{List, [], _∷_, _++_, map, append-nil, append-assoc}
+use mathlib.Core.List.{List, [], _∷_, _++_, map}
 use Prim.Native.Nat.{ℕ, zero, suc, _+_, _-_, _*_, _/_, _≤_, _<_}
 use native.Mathlib.Nat.{zero-add}
 use native.Mathlib.Numerals.{add-one}
@@ -11,7 +11,7 @@ use lib.Dec.{ltb}
 use lib.Ieee.{Float}
 use lib.ListN.{length, take, drop, take-append-drop}
 use lib.Seq.{paste, take-add, take-take}
-use Rattle.model.specs.Lists.{pick, joined, tabulate, indexed, part, row, rowsIn}
+use Rattle.model.specs.Lists.{pick, tabulate, indexed, part, row, rowsIn}
 use Rattle.model.specs.Vector.{Vector}
 use Rattle.model.specs.Attributes.{overRows}
 use Rattle.model.proofs.RowLaws.{flat}

@@ -6,7 +6,7 @@ use native.Mathlib.Omega.{arith}
 use denote.Ref.{now}
 use lib.Ieee.{Float, nan}
 use lib.ListN.{length, getD, take, drop}
-use Rattle.model.specs.Vector.{Vector, norm}
+use Rattle.model.specs.Vector.{norm}
 use Rattle.model.specs.Matrix.{turned}
 use Rattle.scene.specs.Values.{mat3}
 use Rattle.transform.specs.Blocks.{xyzTurned, rowsFrom}

@@ -7,7 +7,7 @@ use lib.Ieee.{nan}
 use lib.ListN.{length, take}
 use Rattle.scene.specs.Values.{mat3}
 use Rattle.scene.proofs.Arrays.{next, full}
-use Rattle.model.specs.Vector.{Vector, dot}
+use Rattle.model.specs.Vector.{dot}
 use Rattle.model.specs.Matrix.{turned}
 use Rattle.transform.specs.Blocks.{squaresFrom}
 use Rattle.transform.proofs.Blocked.{in-block, row-number, squares-count, square-at}

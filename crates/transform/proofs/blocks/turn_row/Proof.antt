@@ -2,7 +2,7 @@
 use mathlib.Core.Path.{ap, _∙_}
 use native.Mathlib.Omega.{arith}
 use denote.Ref.{now}
-use Rattle.model.specs.Vector.{Vector, norm}
+use Rattle.model.specs.Vector.{norm}
 use Rattle.model.specs.Matrix.{turned}
 use Rattle.model.proofs.Rowwise.{row-ends}
 use Rattle.scene.specs.Values.{mat3}
