@@ -18,6 +18,7 @@ mod leaves;
 mod list;
 mod matrices;
 mod measure;
+mod morphs;
 mod placing;
 mod port;
 mod pose;
@@ -42,6 +43,7 @@ const AREAS: [Area; 8] = [
     ("tables", tables::compare),
     ("pose", pose::compare),
     ("graph", graph::compare),
+    ("morphs", morphs::compare),
 ];
 
 fn main() -> io::Result<ExitCode> {
@@ -89,4 +91,5 @@ fn speed() {
     tables::speed::measure();
     pose::speed::measure();
     graph::speed::measure();
+    morphs::speed::measure();
 }

@@ -3,10 +3,12 @@
 
 mod bytes;
 mod lent;
+mod mesh;
 mod vertices;
 
 pub use bytes::*;
 pub use lent::*;
+pub use mesh::*;
 pub use vertices::*;
 
 pub mod scene;

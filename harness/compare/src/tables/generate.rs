@@ -139,7 +139,7 @@ fn child(rng: &mut Rng, nodes: u32, parent: u32) -> NodeId {
 }
 
 /// None, or as many as there may be targets, or about so many.
-fn weights(rng: &mut Rng, sizes: &Sizes) -> Vec<f32> {
+pub fn weights(rng: &mut Rng, sizes: &Sizes) -> Vec<f32> {
     match rng.below(3) {
         0 => Vec::new(),
         1 => exactly(rng, sizes.targets, weight),
@@ -178,7 +178,7 @@ fn mesh(rng: &mut Rng, sizes: &Sizes) -> Mesh {
     }
 }
 
-fn primitive(rng: &mut Rng, sizes: &Sizes) -> Primitive {
+pub fn primitive(rng: &mut Rng, sizes: &Sizes) -> Primitive {
     let vertices = up_to(rng, sizes.vertices);
     Primitive {
         positions: exactly(rng, vertices, vector),
