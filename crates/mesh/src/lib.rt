@@ -10,6 +10,7 @@ ghost use Rattle.mesh.specs.Lent.{targetsIn};
 mod adding;
 mod betweens;
 mod blending;
+mod records;
 mod stations;
 mod targets;
 

@@ -24,5 +24,14 @@ pub extern "C" fn morphed_floats(
         at: targets_at,
         count: targets_count,
     };
-    mesh::morphed(words, floats, header, targets, weights, positions, normals, tangents);
+    mesh::morphed(
+        words,
+        floats,
+        header,
+        targets,
+        weights,
+        positions,
+        normals,
+        tangents,
+    );
 }

@@ -18,9 +18,8 @@ pub fn sorts(base: &Primitive, weights: &[f32]) -> [bool; SORTS.len()] {
         base.targets.iter().zip(weights.iter().copied()).collect();
     let any = |test: &dyn Fn(&MorphTarget, f32) -> bool| pairs.iter().any(|(t, w)| test(t, *w));
     let vertices = base.positions.len();
-    let slots = |test: &dyn Fn(Option<usize>) -> bool| {
-        any(&|t, _| test(t.position.as_ref().map(Vec::len)))
-    };
+    let slots =
+        |test: &dyn Fn(Option<usize>) -> bool| any(&|t, _| test(t.position.as_ref().map(Vec::len)));
     [
         any(&|t, w| w != 0.0 && !t.inbetweens.iter().any(is_valid)),
         any(&|t, w| w != 0.0 && t.inbetweens.iter().any(is_valid)),

@@ -1,9 +1,7 @@
 //! The speed of eight targets with normals and tangents, per vertex.
 
 use super::case::{lend_primitive, targets_of, vertices_of};
-use crate::{
-    measure::side_by_side, port::morphed_floats, rng::Rng, tables::layout::Layout,
-};
+use crate::{measure::side_by_side, port::morphed_floats, rng::Rng, tables::layout::Layout};
 use oracle::{InBetween, MorphTarget, Primitive};
 use std::{array::from_fn, hint::black_box, iter::repeat_with};
 

@@ -1,12 +1,12 @@
--- `mesh::betweens::target_at` meets its contract. Assumes nothing.
+-- `mesh::records::target_at` meets its contract. Assumes nothing.
 use mathlib.Core.Path.{ap, _∙_}
 use Prim.Native.Nat.{_+_}
 use borrow.Author.Needs.{needs}
 use denote.Ref.{now}
 use Rattle.tables.specs.Records.{targetRow}
 use Rattle.mesh.proofs.BetweenLaws.{target-cut-off}
-use Rattle.mesh.proofs.betweens.target_at.Statement.{statement}
-use Rattle.mesh.proofs.betweens.target_at.Tie as tie
+use Rattle.mesh.proofs.records.target_at.Statement.{statement}
+use Rattle.mesh.proofs.records.target_at.Tie as tie
 
 returns : tie.Need-returns
 returns c =

@@ -1,12 +1,12 @@
--- `mesh::betweens::between_at` meets its contract. Assumes nothing.
+-- `mesh::records::between_at` meets its contract. Assumes nothing.
 use mathlib.Core.Path.{ap, _∙_}
 use Prim.Native.Nat.{_+_}
 use borrow.Author.Needs.{needs}
 use denote.Ref.{now}
 use Rattle.tables.specs.Records.{inBetweenRow}
 use Rattle.mesh.proofs.BetweenLaws.{between-cut-off}
-use Rattle.mesh.proofs.betweens.between_at.Statement.{statement}
-use Rattle.mesh.proofs.betweens.between_at.Tie as tie
+use Rattle.mesh.proofs.records.between_at.Statement.{statement}
+use Rattle.mesh.proofs.records.between_at.Tie as tie
 
 returns : tie.Need-returns
 returns c =
