@@ -12,6 +12,19 @@ pub fn least(a: usize, b: usize) -> usize
     if a < b { a } else { b }
 }
 
+// Copies to the start of `out` as much as there is room for, and answers how much.
+pub fn copy_floats(part: &[f32], out: &mut [f32]) -> usize
+    ensures { λ r. ⌜ Wrote (now (part .entry)) (now (out .entry)) (now (out .exit)) r ⌝ }
+{
+    let n = least(part.len(), out.len());
+    let mut i = 0;
+    while i < n {
+        out[i] = part[i];
+        i += 1;
+    }
+    n
+}
+
 fn wide(x: u8) -> u32
     ensures { λ r. ⌜ (r ≡ x) × (r < 256) ⌝ }
 {

@@ -1,0 +1,101 @@
+use crate::Lengths;
+use crate::counting::none;
+use crate::counting::plus;
+use crate::counting::primitive_at;
+use crate::counting::row_lengths;
+use crate::primitives::bake_primitive;
+use animation::Part;
+use scene::Mat4;
+use tables::Header;
+use tables::PrimitiveRow;
+ghost use mathlib.Core.Path.{_≡_};
+ghost use mathlib.Core.Bool.{true};
+ghost use mathlib.Core.List.{[], map};
+ghost use lib.ListN.{length};
+ghost use Rattle.model.specs.Bake.{bakedPrimitive, outputOf};
+ghost use Rattle.tables.specs.Decoded.{primitiveOf};
+ghost use Rattle.checks.specs.Drawn.{lentAs};
+ghost use Rattle.shapes.specs.Rest.{paletteIn, primitivesIn, rowLengths, plusLengths, lengthsBelow, AtMost, RowFits, Drawable, PutAt, PutOut};
+
+// Puts out a primitive of so many floats, from the given places on.
+fn put_primitive(
+    words: &[u32],
+    floats: &[f32],
+    h: Header,
+    row: PrimitiveRow,
+    weights: &[f32],
+    world: Mat4,
+    has_palette: bool,
+    palette: &[f32],
+    at: Lengths,
+    n: Lengths,
+    positions: &mut [f32],
+    normals: &mut [f32],
+    tangents: &mut [f32],
+)
+    requires { ⌜ (n ≡ rowLengths row) × RowFits (now floats) row × AtMost (plusLengths at n) (length (now positions)) (length (now normals)) (length (now tangents)) × AtMost (plusLengths at n) 8589934592 8589934592 8589934592 ⌝ }
+    ensures { λ _. ⌜ PutAt (bakedPrimitive (world .m) (paletteIn «has_palette» (now (palette .entry))) (now (weights .entry)) (primitiveOf (lentAs (now (words .entry)) (now (floats .entry)) [] [] h) row)) at n (now (positions .entry)) (now (positions .exit)) (now (normals .entry)) (now (normals .exit)) (now (tangents .entry)) (now (tangents .exit)) ⌝ }
+{
+    let a = at.positions;
+    let b = at.normals;
+    let c = at.tangents;
+    let d = a + n.positions;
+    let e = b + n.normals;
+    let f = c + n.tangents;
+    bake_primitive(
+        words,
+        floats,
+        h,
+        row,
+        weights,
+        world,
+        has_palette,
+        palette,
+        &mut positions[a..d],
+        &mut normals[b..e],
+        &mut tangents[c..f],
+    );
+}
+
+// Puts out the primitives of a mesh, a part of their table, one after the other, blended and placed: a stage, for tables
+// that draw no number and outputs that are long enough.
+pub fn write_mesh(
+    words: &[u32],
+    floats: &[f32],
+    h: Header,
+    part: Part,
+    weights: &[f32],
+    world: Mat4,
+    has_palette: bool,
+    palette: &[f32],
+    positions: &mut [f32],
+    normals: &mut [f32],
+    tangents: &mut [f32],
+)
+    requires { ⌜ Drawable (now words) (now floats) (h .meshes .primitives) part × AtMost (lengthsBelow (now words) (h .meshes .primitives) part (part .count)) (length (now positions)) (length (now normals)) (length (now tangents)) ⌝ }
+    ensures { λ _. ⌜ PutOut (outputOf (map (bakedPrimitive (world .m) (paletteIn «has_palette» (now (palette .entry))) (now (weights .entry))) (primitivesIn (lentAs (now (words .entry)) (now (floats .entry)) [] [] h) part))) (now (positions .entry)) (now (positions .exit)) (now (normals .entry)) (now (normals .exit)) (now (tangents .entry)) (now (tangents .exit)) ⌝ }
+{
+    let mut at = none();
+    let mut k = 0usize;
+    while k < part.count {
+        let row = primitive_at(words, h.meshes.primitives, part, k);
+        let n = row_lengths(row);
+        put_primitive(
+            words,
+            floats,
+            h,
+            row,
+            weights,
+            world,
+            has_palette,
+            palette,
+            at,
+            n,
+            positions,
+            normals,
+            tangents,
+        );
+        at = plus(at, n);
+        k += 1;
+    }
+}

@@ -1,0 +1,102 @@
+use crate::parts::copy_rest;
+use animation::Part;
+use scene::Mat4;
+use tables::Header;
+use tables::PrimitiveRow;
+ghost use mathlib.Core.Path.{_≡_};
+ghost use mathlib.Core.List.{List, []};
+ghost use Rattle.model.specs.Morph.{withTargets};
+ghost use Rattle.model.specs.Attributes.{attributesIn, shapeOf, Reshaped};
+ghost use Rattle.model.specs.Bake.{placedShape, bakedPrimitive};
+ghost use Rattle.tables.specs.Decoded.{spanIn, slotIn, primitiveOf};
+ghost use Rattle.checks.specs.Drawn.{lentAs};
+ghost use Rattle.mesh.specs.Lent.{targetsIn};
+ghost use Rattle.shapes.specs.Rest.{slotFloats, Sized, AtRest, paletteIn};
+
+// With a palette, and joints and weights present: skinned; otherwise transformed.
+fn place_shape(
+    words: &[u32],
+    floats: &[f32],
+    row: PrimitiveRow,
+    world: Mat4,
+    has_palette: bool,
+    palette: &[f32],
+    positions: &mut [f32],
+    normals: &mut [f32],
+    tangents: &mut [f32],
+)
+    ensures { λ _. ⌜ Reshaped (placedShape (world .m) (paletteIn «has_palette» (now (palette .entry))) (slotIn (now (words .entry)) (row .joints) 4) (slotIn (now (floats .entry)) (row .weights) 4) (attributesIn (now (positions .entry)) (now (normals .entry)) (now (tangents .entry)))) (now (positions .entry)) (now (positions .exit)) (now (normals .entry)) (now (normals .exit)) (now (tangents .entry)) (now (tangents .exit)) ⌝ }
+{
+    let joints = row.joints;
+    let weights = row.weights;
+    if has_palette & tables::is_marked(joints.mark) & tables::is_marked(weights.mark) {
+        transform::skinned(
+            palette,
+            tables::words_in(words, joints.part, 4),
+            tables::floats_in(floats, weights.part, 4),
+            positions,
+            normals,
+            tangents,
+        );
+        return;
+    }
+    transform::transformed(world, positions, normals, tangents);
+}
+
+// The vertices of a primitive, blended with its morph targets.
+fn blend_primitive(
+    words: &[u32],
+    floats: &[f32],
+    h: Header,
+    row: PrimitiveRow,
+    weights: &[f32],
+    positions: &mut [f32],
+    normals: &mut [f32],
+    tangents: &mut [f32],
+)
+    requires { ⌜ Sized (now floats) row (now positions) (now normals) (now tangents) ⌝ }
+    ensures { λ _. ⌜ Reshaped (shapeOf (withTargets (targetsIn (now (words .entry)) (now (floats .entry)) h (row .targets)) (now (weights .entry)) (attributesIn (spanIn (now (floats .entry)) (row .positions) 3) (slotFloats (now (floats .entry)) (row .normals) 3) (slotFloats (now (floats .entry)) (row .tangents) 4)))) (spanIn (now (floats .entry)) (row .positions) 3) (now (positions .exit)) (slotFloats (now (floats .entry)) (row .normals) 3) (now (normals .exit)) (slotFloats (now (floats .entry)) (row .tangents) 4) (now (tangents .exit)) ⌝ }
+{
+    copy_rest(floats, row, positions, normals, tangents);
+    mesh::morphed(
+        words,
+        floats,
+        h,
+        row.targets,
+        weights,
+        positions,
+        normals,
+        tangents,
+    );
+}
+
+// The vertices of a primitive, blended and placed.
+pub(crate) fn bake_primitive(
+    words: &[u32],
+    floats: &[f32],
+    h: Header,
+    row: PrimitiveRow,
+    weights: &[f32],
+    world: Mat4,
+    has_palette: bool,
+    palette: &[f32],
+    positions: &mut [f32],
+    normals: &mut [f32],
+    tangents: &mut [f32],
+)
+    requires { ⌜ Sized (now floats) row (now positions) (now normals) (now tangents) ⌝ }
+    ensures { λ _. ⌜ Reshaped (bakedPrimitive (world .m) (paletteIn «has_palette» (now (palette .entry))) (now (weights .entry)) (primitiveOf (lentAs (now (words .entry)) (now (floats .entry)) [] [] h) row)) (spanIn (now (floats .entry)) (row .positions) 3) (now (positions .exit)) (slotFloats (now (floats .entry)) (row .normals) 3) (now (normals .exit)) (slotFloats (now (floats .entry)) (row .tangents) 4) (now (tangents .exit)) ⌝ }
+{
+    blend_primitive(words, floats, h, row, weights, positions, normals, tangents);
+    place_shape(
+        words,
+        floats,
+        row,
+        world,
+        has_palette,
+        palette,
+        positions,
+        normals,
+        tangents,
+    );
+}
