@@ -1,3 +1,4 @@
 pub mod Posed
 pub mod Drawing
 pub mod Meshed
+pub mod Skinning

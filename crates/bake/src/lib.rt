@@ -1,5 +1,6 @@
 // The bake of one node: `world_mesh_at` of pose.rs.
 mod numbers;
+mod palettes;
 mod posing;
 
 // A refusal number, or 0; how many floats were put out, and how many entries the placing took.
