@@ -1,21 +1,15 @@
 -- The numbers of a bake, test by test, and what tables, time and room are ready for once none of 1 to 6 is drawn. Assumes nothing.
 use mathlib.Core.Path.{_≡_, refl, sym, ap, _∙_, subst}
-use mathlib.Core.Bool.{Bool, true, false, _||_}
-use mathlib.Core.List.{List}
-use mathlib.Core.Option.{Option, none, some}
+use mathlib.Core.Bool.{Bool, true, false}
 use Prim.Native.Nat.{ℕ, zero, suc, _+_, _*_, _/_, _≤_, _<_}
 use native.Mathlib.Omega.{arith}
-use borrow.Author.Tests.{ltb-true, ltb-false}
-use lib.Dec.{ltb}
 use lib.Ieee.{Float, isNan}
-use lib.ListN.{length, getElem?, List·getD-eq-default}
-use Rattle.model.specs.Lists.{pick, isSome, andThen}
-use Rattle.model.specs.Scene.{Scene, Mesh, Node, nodeCount, nodeAt, meshAt}
+use lib.ListN.{length}
+use Rattle.model.specs.Lists.{pick}
+use Rattle.model.specs.Scene.{nodeCount}
 use Rattle.model.specs.Refusals.{firstOf, lowest, someKeysOutOfLine, Scratch, scratchIsShort, earlyNumber}
-use Rattle.tables.specs.Records.{nodeRow}
-use Rattle.tables.specs.Tags.{isMarked, idOf}
 use Rattle.tables.specs.Decoded.{Lent, sceneOf}
-use Rattle.tables.proofs.Decoding.{node-count, node-at, mesh-at, no-mesh}
+use Rattle.tables.proofs.Decoding.{node-count}
 use Rattle.checks.specs.Drawn.{tablesNumber}
 use Rattle.checks.proofs.Clearing.{checked}
 use Rattle.placing.proofs.Linked.{room-linked}
@@ -25,15 +19,16 @@ use Rattle.worlds.proofs.Answering.{short-is}
 use Rattle.worlds.proofs.Delivering.{enough}
 use Rattle.bake.specs.Scratch.{Slices, roomOf, Ready}
 
+-- a number that is drawn comes before every other
+pub first-early : (g n : ℕ) → (g ≡ 0 → ⊥) → g ≡ lowest g n
+first-early zero n d = absurd (d refl)
+first-early (suc g) n d = refl
+
 -- ---- 1 to 6
 module _ (l : Lent) (time : Float) (room : Scratch) where
   pub drawn-first : (g : ℕ) → g ≡ tablesNumber l → (g ≡ 0 → ⊥) → g ≡ earlyNumber (tablesNumber l) (sceneOf l) time room
   unfolding earlyNumber
-  drawn-first g e d = first g d _ ∙ ap (λ (k : ℕ). earlyNumber k (sceneOf l) time room) e
-    where
-      first : (g : ℕ) → (g ≡ 0 → ⊥) → (n : ℕ) → g ≡ lowest g n
-      first zero d n = absurd (d refl)
-      first (suc g) d n = refl
+  drawn-first g e d = first-early g _ d ∙ ap (λ (k : ℕ). earlyNumber k (sceneOf l) time room) e
 
   pub early-tests : (n k b : Bool) → tablesNumber l ≡ 0 → isNan time ≡ n → someKeysOutOfLine (sceneOf l) ≡ k → scratchIsShort (sceneOf l) room ≡ b
       → pick n 3 (pick k 5 (pick b 6 0)) ≡ earlyNumber (tablesNumber l) (sceneOf l) time room
@@ -73,25 +68,3 @@ ready l time r h =
       walk = omega (arith, room-linked l, e .0);
       worlds = omega (arith, n, e .2);
     }
-
--- ---- 7
-module _ (l : Lent) (i : ℕ) where
-  found : (m : ℕ) (c : Bool) → ltb m (l .header .meshes .meshes .count) ≡ c → c ≡ isSome (getElem? (sceneOf l .meshes) m)
-  found m true e = sym (ap isSome (mesh-at l m (ltb-true m _ e)))
-  found m false e = sym (ap isSome (no-mesh l m (ltb-false m _ e)))
-
-  pub mesh-there : i < l .header .graph .nodes .count → (b : Bool) → isMarked (nodeRow (l .words) (l .header .graph .nodes) i .mesh .mark) ≡ b
-      → pick b (ltb (nodeRow (l .words) (l .header .graph .nodes) i .mesh .id) (l .header .meshes .meshes .count)) false ≡ isSome (meshAt (sceneOf l) i)
-  mesh-there h b e = go b e ∙ sym (ap (λ (n : Node). isSome (andThen (n .mesh) (λ m. getElem? (sceneOf l .meshes) m))) (node-at l i h))
-    where
-      go : (b : Bool) → isMarked (nodeRow (l .words) (l .header .graph .nodes) i .mesh .mark) ≡ b
-          → pick b (ltb (nodeRow (l .words) (l .header .graph .nodes) i .mesh .id) (l .header .meshes .meshes .count)) false
-          ≡ isSome (andThen (idOf (nodeRow (l .words) (l .header .graph .nodes) i .mesh)) (λ m. getElem? (sceneOf l .meshes) m))
-      go true e =
-          found (nodeRow (l .words) (l .header .graph .nodes) i .mesh .id) _ refl
-          ∙ ap (λ (c : Bool). isSome (andThen (pick c (some (nodeRow (l .words) (l .header .graph .nodes) i .mesh .id)) none) (λ m. getElem? (sceneOf l .meshes) m))) (sym e)
-      go false e =
-          ap (λ (c : Bool). isSome (andThen (pick c (some (nodeRow (l .words) (l .header .graph .nodes) i .mesh .id)) none) (λ m. getElem? (sceneOf l .meshes) m))) (sym e)
-
-  pub no-node : l .header .graph .nodes .count ≤ i → false ≡ isSome (meshAt (sceneOf l) i)
-  no-node h = sym (ap (λ (n : Node). isSome (andThen (n .mesh) (λ m. getElem? (sceneOf l .meshes) m))) (List·getD-eq-default (sceneOf l .nodes) _ (omega (arith, node-count l))))

@@ -2,3 +2,5 @@ pub mod Posed
 pub mod Drawing
 pub mod Meshed
 pub mod Skinning
+pub mod Judging
+pub mod Placed

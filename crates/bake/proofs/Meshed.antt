@@ -1,17 +1,18 @@
 -- The mesh of a node in checked tables: its primitives can be put out, and how many floats they have. Assumes nothing.
 use mathlib.Core.Path.{_≡_, refl, sym, ap, _∙_, subst}
-use mathlib.Core.Bool.{Bool, true, false, _&&_, true≢false, false≢true}
+use mathlib.Core.Bool.{Bool, true, false, _&&_, false≢true}
 use mathlib.Core.List.{List, [], map}
 use mathlib.Core.Option.{Option, none, some}
 use Prim.Native.Nat.{ℕ, _+_, _*_, _≤_, _<_}
 use native.Mathlib.Omega.{arith}
-use borrow.Author.Tests.{leb-true, ltb-true}
+use native.Mathlib.Decide.{decLt}
+use borrow.Author.Tests.{leb-true, ltb-true, ltb-false}
 use lib.Dec.{leb, ltb}
 use lib.Ieee.{Float}
-use lib.ListN.{length, getElem?}
+use lib.ListN.{length, getElem?, List·getD-eq-default}
 use Rattle.model.specs.Lists.{pick, joined, isSome, andThen}
 use Rattle.model.specs.Matrix.{Matrix}
-use Rattle.model.specs.Scene.{Mesh, Node, Primitive, nodeAt, meshAt}
+use Rattle.model.specs.Scene.{Node, Primitive, blank, meshAt}
 use Rattle.model.specs.Vertices.{Shape}
 use Rattle.model.specs.Bake.{Output, bakedPrimitive, outputOf}
 use Rattle.model.proofs.Tests.{both}
@@ -20,7 +21,7 @@ use Rattle.animation.specs.declared.Part.{Part}
 use Rattle.tables.specs.declared.NodeRow.{NodeRow}
 use Rattle.tables.specs.declared.MeshRow.{MeshRow}
 use Rattle.tables.specs.Records.{nodeRow, meshRow, primitiveRow}
-use Rattle.tables.specs.Tags.{isMarked, idOf}
+use Rattle.tables.specs.Tags.{isMarked}
 use Rattle.tables.specs.Decoded.{Lent, primitiveOf, meshOf, sceneOf}
 use Rattle.tables.proofs.Decoding.{node-count, node-at, mesh-at, no-mesh}
 use Rattle.checks.specs.declared.Table.the-variants as table
@@ -44,21 +45,34 @@ pub record MeshIs (l : Lent) (i : ℕ) : Type 0 where
   pub mesh : rowOf l i .mesh .id < l .header .meshes .meshes .count
   pub at : meshAt (sceneOf l) i ≡ some (meshOf l (meshRowOf l i))
 
-module _ (l : Lent) (i : ℕ) (b : i < l .header .graph .nodes .count) where
-  read : meshAt (sceneOf l) i ≡ andThen (idOf (rowOf l i .mesh)) (λ m. getElem? (sceneOf l .meshes) m)
-  read = ap (λ (n : Node). andThen (n .mesh) (λ m. getElem? (sceneOf l .meshes) m)) (node-at l i b)
+-- a node that is past the last one has none
+blank-mesh : (l : Lent) (i : ℕ) → l .header .graph .nodes .count ≤ i → isSome (meshAt (sceneOf l) i) ≡ false
+blank-mesh l i h = ap (λ (n : Node). isSome (andThen (n .mesh) (λ m. getElem? (sceneOf l .meshes) m))) (List·getD-eq-default (sceneOf l .nodes) blank (omega (arith, node-count l)))
 
-  pub mesh-is : (m c : Bool) → isMarked (rowOf l i .mesh .mark) ≡ m → ltb (rowOf l i .mesh .id) (l .header .meshes .meshes .count) ≡ c → (pick m c false) ≡ true → MeshIs l i
-  mesh-is true true e f h = record {
+module _ (l : Lent) (i : ℕ) (b : i < l .header .graph .nodes .count) where
+  abbrev id : ℕ
+  id = rowOf l i .mesh .id
+
+  read : (c : Bool) → isMarked (rowOf l i .mesh .mark) ≡ c → meshAt (sceneOf l) i ≡ andThen (pick c (some id) none) (λ m. getElem? (sceneOf l .meshes) m)
+  read c e =
+      ap (λ (n : Node). andThen (n .mesh) (λ m. getElem? (sceneOf l .meshes) m)) (node-at l i b)
+      ∙ ap (λ (t : Bool). andThen (pick t (some id) none) (λ m. getElem? (sceneOf l .meshes) m)) e
+
+  from-row : (c d : Bool) → isMarked (rowOf l i .mesh .mark) ≡ c → ltb id (l .header .meshes .meshes .count) ≡ d → isSome (meshAt (sceneOf l) i) ≡ true → MeshIs l i
+  from-row true true e f h = record {
     node = b;
-    mesh = ltb-true (rowOf l i .mesh .id) _ f;
-    at =
-        read
-        ∙ ap (λ (t : Bool). andThen (pick t (some (rowOf l i .mesh .id)) none) (λ m. getElem? (sceneOf l .meshes) m)) e
-        ∙ mesh-at l (rowOf l i .mesh .id) (ltb-true (rowOf l i .mesh .id) _ f);
+    mesh = ltb-true id _ f;
+    at = read true e ∙ mesh-at l id (ltb-true id _ f);
   }
-  mesh-is true false e f h = absurd (false≢true h)
-  mesh-is false c e f h = absurd (false≢true h)
+  from-row true false e f h = absurd (false≢true (sym (ap isSome (read true e ∙ no-mesh l id (ltb-false id _ f))) ∙ h))
+  from-row false d e f h = absurd (false≢true (sym (ap isSome (read false e)) ∙ h))
+
+pub mesh-is : (l : Lent) (i : ℕ) → isSome (meshAt (sceneOf l) i) ≡ true → MeshIs l i
+mesh-is l i h = go (decLt i (l .header .graph .nodes .count))
+  where
+    go : Dec (i < l .header .graph .nodes .count) → MeshIs l i
+    go (yes b) = from-row l i b _ _ refl refl h
+    go (no b) = absurd (false≢true (sym (blank-mesh l i (omega (arith, b))) ∙ h))
 
 module _ (l : Lent) (k : Checked l) (m : ℕ) (b : m < l .header .meshes .meshes .count) where
   abbrev part : Part

@@ -1,15 +1,22 @@
+use crate::palettes::can_have_palette;
+use shapes::Lengths;
 use tables::Header;
 use tables::MeshRow;
 ghost use mathlib.Core.Path.{_≡_};
+ghost use mathlib.Core.Bool.{_&&_};
 ghost use mathlib.Core.List.{List};
-ghost use Prim.Native.Nat.{_≤_};
 ghost use lib.Ieee.{Float};
-ghost use Rattle.model.specs.Lists.{isSome};
+ghost use lib.Dec.{leb, ltb};
+ghost use lib.ListN.{getD};
+ghost use Rattle.model.specs.Lists.{pick, isSome};
 ghost use Rattle.model.specs.Scene.{meshAt};
-ghost use Rattle.model.specs.Refusals.{earlyNumber};
+ghost use Rattle.model.specs.Refusals.{lowest, earlyNumber};
 ghost use Rattle.tables.specs.Records.{nodeRow, meshRow};
+ghost use Rattle.tables.specs.Tags.{isMarked};
 ghost use Rattle.tables.specs.Decoded.{sceneOf};
 ghost use Rattle.checks.specs.Drawn.{lentAs, tablesNumber};
+ghost use Rattle.bake.specs.Skinned.{worldFrom, paletteFrom};
+ghost use Rattle.bake.specs.Baked.{lateNumber};
 
 // The number of a bake as far as 6, with room for so many entries, poses and worlds.
 pub(crate) fn early_number(
@@ -47,21 +54,84 @@ fn wide(x: u32) -> usize
     x as usize
 }
 
-// Whether the node is there, and has a mesh that is.
-pub(crate) fn has_mesh(words: &[u32], h: Header, node: u32) -> bool
-    ensures { λ r. ⌜ ((floats own mesh : List Float) → r ≡ isSome (meshAt (sceneOf (lentAs (now (words .entry)) floats own mesh h)) node)) ⌝ }
+// The number of a bake as far as 7.
+pub(crate) fn first_number(
+    words: &[u32],
+    floats: &[f32],
+    node_weights: &[f32],
+    mesh_weights: &[f32],
+    h: Header,
+    node: u32,
+    time: f32,
+    walk: usize,
+    poses: usize,
+    worlds: usize,
+) -> u32
+    ensures { λ r. ⌜ r ≡ lowest (earlyNumber (tablesNumber (lentAs (now (words .entry)) (now (floats .entry)) (now («node_weights» .entry)) (now («mesh_weights» .entry)) h)) (sceneOf (lentAs (now (words .entry)) (now (floats .entry)) (now («node_weights» .entry)) (now («mesh_weights» .entry)) h)) time (record { walkRoom = walk; poseSlots = poses; worldSlots = worlds })) (pick (isSome (meshAt (sceneOf (lentAs (now (words .entry)) (now (floats .entry)) (now («node_weights» .entry)) (now («mesh_weights» .entry)) h)) node)) 0 7) ⌝ }
 {
-    let nodes = h.graph.nodes;
-    let meshes = h.meshes.meshes;
+    let number = early_number(
+        words,
+        floats,
+        node_weights,
+        mesh_weights,
+        h,
+        time,
+        walk,
+        poses,
+        worlds,
+    );
+    if number != 0 {
+        return number;
+    }
+    if skin::has_mesh(words, h, node) {
+        return 0;
+    }
+    7
+}
+
+// Whether so many floats have room.
+pub(crate) fn fits(n: Lengths, positions: usize, normals: usize, tangents: usize) -> bool
+    ensures { λ r. ⌜ r ≡ (leb (n .positions) positions && leb (n .normals) normals && leb (n .tangents) tangents) ⌝ }
+{
+    (n.positions <= positions) & (n.normals <= normals) & (n.tangents <= tangents)
+}
+
+// Whether a node of n has a world.
+fn is_placed(places: &[u32], n: usize, node: u32) -> bool
+    ensures { λ r. ⌜ r ≡ (ltb node n && isMarked (getD (now (places .entry)) node 0)) ⌝ }
+{
     let i = wide(node);
-    if i < nodes.count {
-        let row = tables::node_row(words, nodes, i);
-        let mesh = row.mesh;
-        if tables::is_marked(mesh.mark) {
-            return wide(mesh.id) < meshes.count;
+    if i < n {
+        if i < places.len() {
+            return tables::is_marked(places[i]);
         }
     }
     false
+}
+
+// The number of a bake past 7: 8, 9, 10, or 0.
+pub(crate) fn late_number(
+    words: &[u32],
+    floats: &[f32],
+    h: Header,
+    node: u32,
+    places: &[u32],
+    fit: bool,
+) -> u32
+    ensures { λ r. ⌜ ((own mesh slots : List Float) → r ≡ lateNumber (isSome (worldFrom (lentAs (now (words .entry)) (now (floats .entry)) own mesh h) (now (places .entry)) slots node)) (isSome (paletteFrom (lentAs (now (words .entry)) (now (floats .entry)) own mesh h) (nodeRow (now (words .entry)) (h .graph .nodes) node .skin) (now (places .entry)) slots)) fit) ⌝ }
+{
+    let nodes = h.graph.nodes;
+    if is_placed(places, nodes.count, node) {
+        let row = tables::node_row(words, nodes, wide(node));
+        if can_have_palette(words, floats, h, row.skin, places) {
+            if fit {
+                return 0;
+            }
+            return 10;
+        }
+        return 9;
+    }
+    8
 }
 
 // The record of a node's mesh.

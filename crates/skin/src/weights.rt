@@ -28,7 +28,7 @@ pub fn weights_of<'a>(
 }
 
 // Whether a node has a mesh.
-fn has_mesh(words: &[u32], h: Header, node: u32) -> bool
+pub fn has_mesh(words: &[u32], h: Header, node: u32) -> bool
     ensures { λ r. ⌜ Meshed (now (words .entry)) h node r ⌝ }
 {
     let i = wide(node);
