@@ -4,3 +4,5 @@ pub mod Meshed
 pub mod Skinning
 pub mod Judging
 pub mod Placed
+pub mod TablesRange
+pub mod TwoMakers

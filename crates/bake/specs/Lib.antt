@@ -1,3 +1,4 @@
 pub mod Scratch
 pub mod Baked
+pub mod Makers
 pub mod Skinned
