@@ -1,7 +1,7 @@
 -- The palette of a bake: how long it is, whether it is there, and read again from the slice it was written to. Assumes nothing.
 use mathlib.Core.Path.{_≡_, refl, sym, ap, _∙_, subst}
 use mathlib.Core.Bool.{Bool, true, false, false≢true}
-use mathlib.Core.List.{List, [], _∷_, _++_, append-nil}
+use mathlib.Core.List.{List, [], _∷_, append-nil}
 use mathlib.Core.Option.{Option, none, some}
 use Prim.Native.Nat.{ℕ, suc, _*_, _/_, _≤_}
 use native.Mathlib.Omega.{arith}
@@ -14,7 +14,7 @@ use Rattle.model.specs.Lists.{pick, isSome, orElse, andThen, mapSome, tabulate,
 use Rattle.model.specs.Matrix.{Matrix, mul}
 use Rattle.model.specs.Scene.{Skin, Skeleton, skeletonOf}
 use Rattle.model.specs.Skin.{products, bindsOf, paletteOf}
-use Rattle.model.specs.Bake.{paletteWith}
+use Rattle.model.specs.Bake.{paletteWith, Output}
 use Rattle.model.proofs.RowLaws.{flat, Rows, flat-length, row-of-flat}
 use Rattle.model.proofs.Rowwise.{tabulate-alike, tabulate-entries}
 use Rattle.tables.specs.declared.Reference.{Reference}
@@ -22,6 +22,7 @@ use Rattle.tables.specs.Records.{skeletonRow}
 use Rattle.tables.specs.Tags.{isMarked}
 use Rattle.tables.specs.Decoded.{Lent, sceneOf}
 use Rattle.tables.proofs.Decoding.{skeleton-at, no-skeleton}
+use Rattle.shapes.specs.Rest.{PutOut}
 use Rattle.worlds.proofs.Stepping.{product-length}
 use Rattle.skin.specs.Palette.{laidOut}
 use Rattle.skin.proofs.Rows.{laid}
@@ -61,17 +62,22 @@ module _ (l : Lent) (r : Reference) (codes : List ℕ) (slots : List Float) wher
       go none = refl
       go (some ms) = refl
 
-  -- a palette of a node that names a skin is that of the skin
-  pub by-skin : isMarked (r .mark) ≡ true → (p : Option (List Matrix)) → paletteFrom l r codes slots ≡ some p
-      → (P : Option (List Matrix) → Type 0) → ((ms : List Matrix) → skinPaletteFrom l (r .id) codes slots ≡ some ms → P (some ms)) → P p
-  by-skin m p e P k = go (skinPaletteFrom l (r .id) codes slots) refl (sym (with-skin m) ∙ e)
-    where
-      go : (o : Option (List Matrix)) → skinPaletteFrom l (r .id) codes slots ≡ o → mapSome some o ≡ some p → P p
-      go none q f = absurd (false≢true (ap isSome f))
-      go (some ms) q f = subst P (ap (λ (x : Option (Option (List Matrix))). orElse x none) f) (k ms q)
+-- ---- a mesh put out with that palette
+module _ (put : Option (List Matrix) → Output) (p₁ p₂ n₁ n₂ t₁ t₂ : List Float) where
+  pub put-alike : (p q : Option (List Matrix)) → p ≡ q → PutOut (put p) p₁ p₂ n₁ n₂ t₁ t₂ → PutOut (put q) p₁ p₂ n₁ n₂ t₁ t₂
+  put-alike p q e h = subst (λ (x : Option (List Matrix)). PutOut (put x) p₁ p₂ n₁ n₂ t₁ t₂) e h
 
-  pub by-none : isMarked (r .mark) ≡ false → (p : Option (List Matrix)) → paletteFrom l r codes slots ≡ some p → none ≡ p
-  by-none m p e = ap (λ (x : Option (Option (List Matrix))). orElse x none) (sym (without-skin m) ∙ e)
+  module _ (l : Lent) (r : Reference) (codes : List ℕ) (slots : List Float) (p : Option (List Matrix)) (e : paletteFrom l r codes slots ≡ some p) where
+    pub put-with : isMarked (r .mark) ≡ true → ((ms : List Matrix) → skinPaletteFrom l (r .id) codes slots ≡ some ms → PutOut (put (some ms)) p₁ p₂ n₁ n₂ t₁ t₂)
+        → PutOut (put p) p₁ p₂ n₁ n₂ t₁ t₂
+    put-with m h = go (skinPaletteFrom l (r .id) codes slots) refl (sym (with-skin l r codes slots m) ∙ e)
+      where
+        go : (o : Option (List Matrix)) → skinPaletteFrom l (r .id) codes slots ≡ o → mapSome some o ≡ some p → PutOut (put p) p₁ p₂ n₁ n₂ t₁ t₂
+        go none q f = absurd (false≢true (ap isSome f))
+        go (some ms) q f = put-alike (some ms) p (ap (λ (x : Option (Option (List Matrix))). orElse x none) f) (h ms q)
+
+    pub put-without : isMarked (r .mark) ≡ false → PutOut (put none) p₁ p₂ n₁ n₂ t₁ t₂ → PutOut (put p) p₁ p₂ n₁ n₂ t₁ t₂
+    put-without m h = put-alike none p (ap (λ (x : Option (Option (List Matrix))). orElse x none) (sym (without-skin l r codes slots m) ∙ e)) h
 
 -- ---- each product has sixteen numbers, and there are no more of them than joints
 module _ (world : ℕ → Option Matrix) where
