@@ -6,3 +6,4 @@ pub mod Judging
 pub mod Placed
 pub mod TablesRange
 pub mod TwoMakers
+pub mod PosedWeights

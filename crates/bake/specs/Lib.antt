@@ -2,3 +2,4 @@ pub mod Scratch
 pub mod Baked
 pub mod Makers
 pub mod Skinned
+pub mod Weights

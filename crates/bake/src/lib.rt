@@ -12,3 +12,4 @@ pub struct Answer {
     pub tangents: usize,
     pub taken: usize,
 }
+mod weighing;
