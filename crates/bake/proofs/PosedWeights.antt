@@ -5,17 +5,25 @@ use mathlib.Core.List.{List, [], _∷_, _++_}
 use mathlib.Core.Option.{Option, none, some}
 use Prim.Native.Nat.{ℕ, zero, suc, _+_, _≤_, _<_}
 use native.Mathlib.Omega.{arith}
-use borrow.Author.Tests.{ltb-false}
-use lib.Dec.{ltb, eqb}
+use borrow.Author.Tests.{lt-ltb, ltb-false, leb-true, eqb-true}
+use lib.Dec.{ltb, leb, eqb}
 use lib.Ieee.{Float, isNan}
-use lib.ListN.{length, take, drop}
+use lib.ListN.{length, take, drop, replicate}
 use lib.Seq.{take-at}
-use Rattle.model.specs.Lists.{pick}
+use Rattle.float.specs.F32.{zero32}
+use Rattle.model.specs.Lists.{pick, tabulate, isSome, andThen}
+use Rattle.model.specs.Limits.{vertexLimit, targetLimit}
 use Rattle.model.specs.Vector.{Vector}
-use Rattle.model.specs.Scene.{Kind, vec3s, quats, scalars, Track}
-use Rattle.model.specs.Sampling.{stride, rowWidth, locate, valueAt, sample}
-use Rattle.model.specs.Refusals.{isScalars, sampleNumber}
+use Rattle.model.specs.Matrix.{Matrix}
+use Rattle.model.specs.Scene.{Property, translation, rotation, scale, morphWeights, Kind, vec3s, quats, scalars, Track, Target, Primitive}
+use Rattle.model.specs.Sampling.{even, stride, rowWidth, inLine, locate, valueAt, sample}
+use Rattle.model.specs.Pose.{atRest, given, replaced}
+use Rattle.model.specs.Morph.{withTarget, withTargets}
+use Rattle.model.specs.Bake.{placedShape, bakedPrimitive}
+use Rattle.model.specs.Refusals.{isScalars, sampleNumber, someKeysOutOfLine}
 use Rattle.model.specs.Calls.{Sampled, delivered, sampledOr, sampled}
+use Rattle.model.proofs.ListLaws.{length-tabulate}
+use Rattle.model.proofs.Tests.{both}
 use Rattle.model.proofs.Located.{locate-in-range}
 use Rattle.model.proofs.Numbers.{sample-accepted}
 use Rattle.model.proofs.Sampled.{sample-at, value-width}
@@ -25,9 +33,17 @@ use Rattle.animation.specs.declared.Track as animation
 use Rattle.animation.specs.Values.{answerOf}
 use Rattle.animation.specs.Tracks.{trackIn, tableNumber}
 use Rattle.tables.specs.declared.ChannelRow.{ChannelRow}
+use Rattle.tables.specs.declared.PrimitiveRow.{PrimitiveRow}
+use Rattle.tables.specs.Records.{channelRow, targetRow}
 use Rattle.tables.specs.Tags.{propertyFor, trackFor}
+use Rattle.tables.specs.Decoded.{Lent, targetOf, primitiveOf, sceneOf}
+use Rattle.checks.specs.Bounds.{slotWithin, primitiveWithin}
+use Rattle.checks.specs.Drawn.{tablesNumber}
 use Rattle.pose.specs.Lines.{channelIn}
-use Rattle.pose.proofs.SampledGifts.{sample-driving}
+use Rattle.pose.specs.Encoded.{givesWeights, standingFrom, standing}
+use Rattle.pose.proofs.EncodeLaws.{stands, stand-more}
+use Rattle.pose.proofs.CallLaws.{none-drawn, all-in-line}
+use Rattle.pose.proofs.SampledGifts.{sample-driving, answered}
 use Rattle.bake.specs.Weights.{Weighed}
 
 -- ---- a channel sampled
@@ -78,3 +94,86 @@ module _ (floats : List Float) (row : ChannelRow) (time : Float) where
             ∙ sampled-weights tr time g lent (ap (sampleNumber g tr time) size ∙ z) k
             ∙ (λ j. some (take (count j) (slice j)));
       }
+
+-- ---- the channel that stands
+module _ (time : Float) (i : ℕ) where
+  standing-at : (n : ℕ) (f : ℕ → Track) (k : ℕ) → standing time i (tabulate n f) ≡ suc k → (k < n) × (stands time i (f k) ≡ true)
+  unfolding standingFrom tabulate
+  standing-at zero f k h = absurd (omega (arith, h))
+  standing-at (suc n) f k h = go (stands time i (f n)) refl (sym (stand-more time i 0 0 n f) ∙ h) (standing-at n f k)
+    where
+      go : (b : Bool) → stands time i (f n) ≡ b → pick b (0 + n + 1) (standing time i (tabulate n f)) ≡ suc k
+          → (standing time i (tabulate n f) ≡ suc k → (k < n) × (stands time i (f k) ≡ true)) → (k < suc n) × (stands time i (f k) ≡ true)
+      go true e q before = let last : n ≡ k = omega (arith, q) in (omega (arith, last), subst (λ (m : ℕ). stands time i (f m) ≡ true) last e)
+      go false e q before = let r = before q in (omega (arith, r .0), r .1)
+
+gives-weights : (q : Property) (κ : Kind) (o : Option Vector) → isSome (replaced q (andThen o (given q κ)) atRest .weights) ≡ true → (κ ≡ scalars) × (isSome o ≡ true)
+unfolding given replaced
+gives-weights translation κ o h = absurd (false≢true h)
+gives-weights rotation κ o h = absurd (false≢true h)
+gives-weights scale κ o h = absurd (false≢true h)
+gives-weights morphWeights κ none h = absurd (false≢true h)
+gives-weights morphWeights vec3s (some v) h = absurd (false≢true h)
+gives-weights morphWeights quats (some v) h = absurd (false≢true h)
+gives-weights morphWeights scalars (some v) h = (refl, refl)
+
+-- a channel with a value, and with keys in line where it is even, is not refused
+module _ (floats : List Float) (row : ChannelRow) (time : Float) where
+  abbrev sampleable : ℕ
+  sampleable = sampleNumber (tableNumber floats (trackFor row)) (channelIn floats row) time 64
+
+  not-refused : tableNumber floats (trackFor row) ≡ 0 → isNan time ≡ false → (even (channelIn floats row) && not (inLine (channelIn floats row .keys))) ≡ false
+      → isSome (sample (channelIn floats row) time) ≡ true → sampleable ≡ 0
+  unfolding sampleNumber sampled
+  not-refused z number line h = go sampleable refl
+    where
+      go : (m : ℕ) → sampleable ≡ m → m ≡ 0
+      go zero e = refl
+      go (suc m) e =
+          let none-there : sample (trackIn floats (trackFor row)) time ≡ none
+          = answered floats row time (trackFor row) (replicate 64 zero32) (replicate 64 zero32) (value.Refused (suc m)) refl z number line refl
+          (sym (ap (λ (n : ℕ). sampledOr n (trackIn floats (trackFor row)) time (replicate 64 zero32)) e)) in
+          absurd (false≢true (sym (ap isSome (sample-driving (row .target) (propertyFor (row .property)) (trackIn floats (trackFor row)) time ∙ none-there)) ∙ h))
+
+module _ (l : Lent) (time : Float) where
+  abbrev pub rowAt : ℕ → ChannelRow
+  rowAt k = channelRow (l .words) (l .header .channels) k
+
+  pub standing-channel : tablesNumber l ≡ 0 → isNan time ≡ false → someKeysOutOfLine (sceneOf l) ≡ false
+      → (i : ℕ) → i < l .header .graph .nodes .count → (k : ℕ) → standing time i (sceneOf l .tracks) ≡ suc k
+      → (k < l .header .channels .count) × (channelIn (l .floats) (rowAt k) .kind ≡ scalars)
+      × (sampleNumber (tableNumber (l .floats) (trackFor (rowAt k))) (channelIn (l .floats) (rowAt k)) time 64 ≡ 0)
+  unfolding sceneOf
+  standing-channel z number lines i b k h =
+      let t = channelIn (l .floats) (rowAt k) in
+      let s = standing-at time i (l .header .channels .count) (λ m. channelIn (l .floats) (rowAt m)) k h in
+      let aimed = both (eqb (t .target) i) (givesWeights time t) (s .1) in
+      let w = gives-weights (t .property) (t .kind) (sample t time) (aimed .1) in
+      let target = eqb-true (t .target) i (aimed .0) in
+      let line : (even t && not (inLine (t .keys))) ≡ false
+      = sym (ap (λ (c : Bool). c && even t && not (inLine (t .keys))) (lt-ltb (t .target) (l .header .graph .nodes .count) (omega (arith, target, b))))
+      ∙ all-in-line l lines k (s .0) in
+      (s .0, w .0, not-refused (l .floats) (rowAt k) time (none-drawn l z k (s .0)) number line (w .1))
+
+-- ---- weights past the targets
+pub cut : (n : ℕ) (ts : List Target) (ws : List Float) (p : Primitive) → length ts ≤ n → withTargets ts (take n ws) p ≡ withTargets ts ws p
+unfolding withTargets
+cut n [] ws p h = refl
+cut zero (t ∷ ts) ws p h = absurd (omega (arith, h))
+cut (suc n) (t ∷ ts) [] p h = refl
+cut (suc n) (t ∷ ts) (w ∷ ws) p h = cut n ts ws (withTarget p t w) (omega (arith, h))
+
+module _ (world : Matrix) (palette : Option (List Matrix)) (ws : List Float) where
+  pub baked-cut : (p : Primitive) → length (p .targets) ≤ targetLimit → bakedPrimitive world palette (take targetLimit ws) p ≡ bakedPrimitive world palette ws p
+  unfolding bakedPrimitive
+  baked-cut p h = ap (λ (m : Primitive). placedShape world palette (m .joints) (m .weights) m) (cut targetLimit (p .targets) ws p h)
+
+  -- a primitive of tables that draw nothing
+  pub row-cut : (l : Lent) (r : PrimitiveRow) → primitiveWithin r ≡ true
+      → bakedPrimitive world palette (take targetLimit ws) (primitiveOf l r) ≡ bakedPrimitive world palette ws (primitiveOf l r)
+  row-cut l r h =
+      let shape = leb (r .positions .count) vertexLimit && (slotWithin (r .normals) && slotWithin (r .tangents)) in
+      let skinned = slotWithin (r .joints) && slotWithin (r .weights) in
+      let within = leb (r .targets .count) targetLimit in
+      let few = leb-true (r .targets .count) targetLimit (both skinned within (both shape (skinned && within) h .1) .1) in
+      baked-cut (primitiveOf l r) (omega (arith, few, length-tabulate (r .targets .count) (λ k. targetOf l (targetRow (l .words) (l .header .meshes .targets) (r .targets .at + k)))))
