@@ -3,21 +3,24 @@ use mathlib.Core.Path.{_≡_, refl, sym, ap, _∙_, subst}
 use mathlib.Core.Bool.{Bool, true, false, not, _&&_, false≢true}
 use mathlib.Core.List.{List, [], _∷_, _++_}
 use mathlib.Core.Option.{Option, none, some}
-use Prim.Native.Nat.{ℕ, zero, suc, _+_, _≤_, _<_}
+use Prim.Native.Nat.{ℕ, zero, suc, _+_, _*_, _/_, _≤_, _<_, min}
 use native.Mathlib.Omega.{arith}
-use borrow.Author.Tests.{lt-ltb, ltb-false, leb-true, eqb-true}
+use borrow.Author.Tests.{lt-ltb, ltb-true, ltb-false, leb-true, eqb-true}
 use lib.Dec.{ltb, leb, eqb}
 use lib.Ieee.{Float, isNan}
-use lib.ListN.{length, take, drop, replicate}
-use lib.Seq.{take-at}
+use lib.ListN.{length, getD, take, drop, replicate, length-take, List·getD-eq-default}
+use lib.Seq.{take-all, take-at}
 use Rattle.float.specs.F32.{zero32}
 use Rattle.model.specs.Lists.{pick, tabulate, isSome, andThen}
 use Rattle.model.specs.Limits.{vertexLimit, targetLimit}
 use Rattle.model.specs.Vector.{Vector}
 use Rattle.model.specs.Matrix.{Matrix}
-use Rattle.model.specs.Scene.{Property, translation, rotation, scale, morphWeights, Kind, vec3s, quats, scalars, Track, Target, Primitive}
+use Rattle.model.specs.Scene.{Property, translation, rotation, scale, morphWeights, Kind, vec3s, quats, scalars, Track, Target, Primitive, Scene, nodeCount, nodeAt}
 use Rattle.model.specs.Sampling.{even, stride, rowWidth, inLine, locate, valueAt, sample}
 use Rattle.model.specs.Pose.{atRest, given, replaced}
+use Rattle.model.specs.World.{posesOf, poseAt}
+use Rattle.model.specs.Skin.{blendWeights}
+use Rattle.model.specs.Written.{Wrote}
 use Rattle.model.specs.Morph.{withTarget, withTargets}
 use Rattle.model.specs.Bake.{placedShape, bakedPrimitive}
 use Rattle.model.specs.Refusals.{isScalars, sampleNumber, someKeysOutOfLine}
@@ -33,18 +36,23 @@ use Rattle.animation.specs.declared.Track as animation
 use Rattle.animation.specs.Values.{answerOf}
 use Rattle.animation.specs.Tracks.{trackIn, tableNumber}
 use Rattle.tables.specs.declared.ChannelRow.{ChannelRow}
+use Rattle.tables.specs.declared.NodeRow.{NodeRow}
+use Rattle.tables.specs.declared.MeshRow.{MeshRow}
 use Rattle.tables.specs.declared.PrimitiveRow.{PrimitiveRow}
-use Rattle.tables.specs.Records.{channelRow, targetRow}
+use Rattle.tables.specs.Records.{nodeRow, channelRow, targetRow}
 use Rattle.tables.specs.Tags.{propertyFor, trackFor}
-use Rattle.tables.specs.Decoded.{Lent, targetOf, primitiveOf, sceneOf}
+use Rattle.tables.specs.Decoded.{Lent, nodeOf, targetOf, primitiveOf, meshOf, sceneOf}
+use Rattle.tables.proofs.Decoding.{node-count, node-at, channel-at}
 use Rattle.checks.specs.Bounds.{slotWithin, primitiveWithin}
 use Rattle.checks.specs.Drawn.{tablesNumber}
+use Rattle.pose.specs.Slots.{room}
 use Rattle.pose.specs.Lines.{channelIn}
-use Rattle.pose.specs.Encoded.{givesWeights, standingFrom, standing}
-use Rattle.pose.proofs.EncodeLaws.{stands, stand-more}
+use Rattle.pose.specs.Encoded.{givesWeights, standingFrom, standing, weightsBy, encodedWords}
+use Rattle.pose.proofs.EncodeLaws.{stands, stand-more, read-word}
+use Rattle.pose.proofs.WeightLaws.{standing-weights}
 use Rattle.pose.proofs.CallLaws.{none-drawn, all-in-line}
 use Rattle.pose.proofs.SampledGifts.{sample-driving, answered}
-use Rattle.bake.specs.Weights.{Weighed}
+use Rattle.bake.specs.Weights.{Weighed, Unposed, Blending}
 
 -- ---- a channel sampled
 module _ (tr : Track) (time : Float) (g : ℕ) (lent : List Float) where
@@ -136,24 +144,83 @@ module _ (floats : List Float) (row : ChannelRow) (time : Float) where
           absurd (false≢true (sym (ap isSome (sample-driving (row .target) (propertyFor (row .property)) (trackIn floats (trackFor row)) time ∙ none-there)) ∙ h))
 
 module _ (l : Lent) (time : Float) where
-  abbrev pub rowAt : ℕ → ChannelRow
-  rowAt k = channelRow (l .words) (l .header .channels) k
+  abbrev channelAt : ℕ → ChannelRow
+  channelAt k = channelRow (l .words) (l .header .channels) k
 
   pub standing-channel : tablesNumber l ≡ 0 → isNan time ≡ false → someKeysOutOfLine (sceneOf l) ≡ false
       → (i : ℕ) → i < l .header .graph .nodes .count → (k : ℕ) → standing time i (sceneOf l .tracks) ≡ suc k
-      → (k < l .header .channels .count) × (channelIn (l .floats) (rowAt k) .kind ≡ scalars)
-      × (sampleNumber (tableNumber (l .floats) (trackFor (rowAt k))) (channelIn (l .floats) (rowAt k)) time 64 ≡ 0)
+      → (k < l .header .channels .count) × (channelIn (l .floats) (channelAt k) .kind ≡ scalars)
+      × (sampleNumber (tableNumber (l .floats) (trackFor (channelAt k))) (channelIn (l .floats) (channelAt k)) time 64 ≡ 0)
   unfolding sceneOf
   standing-channel z number lines i b k h =
-      let t = channelIn (l .floats) (rowAt k) in
-      let s = standing-at time i (l .header .channels .count) (λ m. channelIn (l .floats) (rowAt m)) k h in
+      let t = channelIn (l .floats) (channelAt k) in
+      let s = standing-at time i (l .header .channels .count) (λ m. channelIn (l .floats) (channelAt m)) k h in
       let aimed = both (eqb (t .target) i) (givesWeights time t) (s .1) in
       let w = gives-weights (t .property) (t .kind) (sample t time) (aimed .1) in
       let target = eqb-true (t .target) i (aimed .0) in
       let line : (even t && not (inLine (t .keys))) ≡ false
       = sym (ap (λ (c : Bool). c && even t && not (inLine (t .keys))) (lt-ltb (t .target) (l .header .graph .nodes .count) (omega (arith, target, b))))
       ∙ all-in-line l lines k (s .0) in
-      (s .0, w .0, not-refused (l .floats) (rowAt k) time (none-drawn l z k (s .0)) number line (w .1))
+      (s .0, w .0, not-refused (l .floats) (channelAt k) time (none-drawn l z k (s .0)) number line (w .1))
+
+-- ---- the weights that a node is blended with
+pub copied : (results lent left : List Float) (n : ℕ) → Wrote results lent left n → length lent ≡ 64 → (n ≤ 64) × (take n left ≡ take 64 results)
+copied results lent left n w size = (
+  omega (arith, w .counted, size),
+  ap (take n) (w .slice) ∙ take-at (take n results) (drop n lent) n (omega (arith, length-take n results, w .counted)) ∙ go (ltb (length results) 64) refl,
+)
+  where
+    go : (b : Bool) → ltb (length results) 64 ≡ b → take n results ≡ take 64 results
+    go true e =
+        let short = ltb-true (length results) 64 e in
+        take-all n results (omega (arith, w .counted, size, short)) ∙ sym (take-all 64 results (omega (arith, short)))
+    go false e =
+        let long = ltb-false (length results) 64 e in
+        let whole : n ≡ 64 = omega (arith, w .counted, size, long) in
+        ap (λ (m : ℕ). take m results) whole
+
+pub past-slots : (marks : List ℕ) (i : ℕ) → length marks / 4 ≤ i → 0 ≡ getD marks (i * 4 + 3) 0
+past-slots marks i h = sym (List·getD-eq-default marks 0 (omega (arith, h)))
+
+module _ (l : Lent) (time : Float) (marks : List ℕ) (i : ℕ) (mesh : MeshRow) (left : List Float) (r : ℕ) where
+  abbrev s : Scene
+  s = sceneOf l
+
+  -- what the word of a slot says of the posed weights
+  by-word : (w : ℕ) → getD marks (i * 4 + 3) 0 ≡ w → i < nodeCount s → (lent : List ℕ) (slots : List Float) → nodeCount s ≤ room lent slots
+      → marks ≡ encodedWords time (nodeCount s) (s .tracks) lent
+      → (standing time i (s .tracks) ≡ w) × (poseAt (posesOf time s) i .weights ≡ weightsBy time (s .tracks) w)
+  by-word w e b lent slots space m =
+      let word : standing time i (s .tracks) ≡ w
+      = sym (read-word time (nodeCount s) lent slots space (s .tracks) i b) ∙ sym (ap (λ (x : List ℕ). getD x (i * 4 + 3) 0) m) ∙ e in
+      (word, standing-weights time i (s .tracks) (nodeCount s) b ∙ ap (weightsBy time (s .tracks)) word)
+
+  abbrev own : Option (List Float)
+  own = nodeAt s i .weights
+
+  pub by-channel : (k : ℕ) → getD marks (i * 4 + 3) 0 ≡ suc k → Weighed (l .floats) (channelRow (l .words) (l .header .channels) k) time left r
+      → Blending l time marks i mesh left r
+  by-channel k e w = record {
+    few = w .few;
+    weights = λ z number lines b lent slots space m.
+        let p = by-word (suc k) e b lent slots space m in
+        let c = standing-channel l time z number lines i (omega (arith, b, node-count l)) k (p .0) in
+        let posed : poseAt (posesOf time s) i .weights ≡ some (take r left)
+        = p .1 ∙ ap (λ (o : Option Track). andThen o (λ t. sample t time)) (channel-at l k (c .0)) ∙ w .weights (c .2) (c .1) in
+        sym (take-all 64 (take r left) (omega (arith, length-take r left, w .few)))
+        ∙ sym (ap (λ (o : Option (List Float)). take 64 (blendWeights o own (meshOf l mesh))) posed);
+  }
+
+  pub by-rows : (row : NodeRow) → getD marks (i * 4 + 3) 0 ≡ 0 → row ≡ nodeRow (l .words) (l .header .graph .nodes) i
+      → Unposed (l .nodeWeights) (l .meshWeights) row mesh left r → Blending l time marks i mesh left r
+  by-rows row e q u = record {
+    few = u .few;
+    weights = λ z number lines b lent slots space m.
+        let p = by-word 0 e b lent slots space m in
+        let node = node-at l i (omega (arith, b, node-count l)) ∙ ap (nodeOf l) (sym q) in
+        u .weights (l .words) (l .floats) (l .header)
+        ∙ sym (λ j. take 64 (blendWeights (p .1 j) (node j .weights) (meshOf l mesh)));
+  }
 
 -- ---- weights past the targets
 pub cut : (n : ℕ) (ts : List Target) (ws : List Float) (p : Primitive) → length ts ≤ n → withTargets ts (take n ws) p ≡ withTargets ts ws p
