@@ -1,9 +1,9 @@
 -- The weights that a bake blends with: those of the channel that stands, and that more than 64 do not matter. Assumes nothing.
 use mathlib.Core.Path.{_≡_, refl, sym, ap, _∙_, subst}
 use mathlib.Core.Bool.{Bool, true, false, not, _&&_, false≢true}
-use mathlib.Core.List.{List, [], _∷_, _++_}
+use mathlib.Core.List.{List, [], _∷_, map}
 use mathlib.Core.Option.{Option, none, some}
-use Prim.Native.Nat.{ℕ, zero, suc, _+_, _*_, _/_, _≤_, _<_, min}
+use Prim.Native.Nat.{ℕ, zero, suc, _+_, _*_, _/_, _≤_, _<_}
 use native.Mathlib.Omega.{arith}
 use borrow.Author.Tests.{lt-ltb, ltb-true, ltb-false, leb-true, eqb-true}
 use lib.Dec.{ltb, leb, eqb}
@@ -39,12 +39,15 @@ use Rattle.tables.specs.declared.ChannelRow.{ChannelRow}
 use Rattle.tables.specs.declared.NodeRow.{NodeRow}
 use Rattle.tables.specs.declared.MeshRow.{MeshRow}
 use Rattle.tables.specs.declared.PrimitiveRow.{PrimitiveRow}
-use Rattle.tables.specs.Records.{nodeRow, channelRow, targetRow}
+use Rattle.tables.specs.Records.{nodeRow, channelRow, meshRow, primitiveRow, targetRow}
 use Rattle.tables.specs.Tags.{propertyFor, trackFor}
 use Rattle.tables.specs.Decoded.{Lent, nodeOf, targetOf, primitiveOf, meshOf, sceneOf}
 use Rattle.tables.proofs.Decoding.{node-count, node-at, channel-at}
+use Rattle.checks.specs.declared.Table.the-variants as table
+use Rattle.checks.specs.Places.{fitsIn}
 use Rattle.checks.specs.Bounds.{slotWithin, primitiveWithin}
 use Rattle.checks.specs.Drawn.{tablesNumber}
+use Rattle.checks.proofs.Clearing.{checked}
 use Rattle.pose.specs.Slots.{room}
 use Rattle.pose.specs.Lines.{channelIn}
 use Rattle.pose.specs.Encoded.{givesWeights, standingFrom, standing, weightsBy, encodedWords}
@@ -52,6 +55,7 @@ use Rattle.pose.proofs.EncodeLaws.{stands, stand-more, read-word}
 use Rattle.pose.proofs.WeightLaws.{standing-weights}
 use Rattle.pose.proofs.CallLaws.{none-drawn, all-in-line}
 use Rattle.pose.proofs.SampledGifts.{sample-driving, answered}
+use Rattle.skin.specs.Weights.{Effective}
 use Rattle.bake.specs.Weights.{Weighed, Unposed, Blending}
 
 -- ---- a channel sampled
@@ -127,15 +131,15 @@ gives-weights morphWeights scalars (some v) h = (refl, refl)
 
 -- a channel with a value, and with keys in line where it is even, is not refused
 module _ (floats : List Float) (row : ChannelRow) (time : Float) where
-  abbrev sampleable : ℕ
-  sampleable = sampleNumber (tableNumber floats (trackFor row)) (channelIn floats row) time 64
+  abbrev refusal : ℕ
+  refusal = sampleNumber (tableNumber floats (trackFor row)) (channelIn floats row) time 64
 
   not-refused : tableNumber floats (trackFor row) ≡ 0 → isNan time ≡ false → (even (channelIn floats row) && not (inLine (channelIn floats row .keys))) ≡ false
-      → isSome (sample (channelIn floats row) time) ≡ true → sampleable ≡ 0
+      → isSome (sample (channelIn floats row) time) ≡ true → refusal ≡ 0
   unfolding sampleNumber sampled
-  not-refused z number line h = go sampleable refl
+  not-refused z number line h = go refusal refl
     where
-      go : (m : ℕ) → sampleable ≡ m → m ≡ 0
+      go : (m : ℕ) → refusal ≡ m → m ≡ 0
       go zero e = refl
       go (suc m) e =
           let none-there : sample (trackIn floats (trackFor row)) time ≡ none
@@ -164,7 +168,7 @@ module _ (l : Lent) (time : Float) where
       (s .0, w .0, not-refused (l .floats) (channelAt k) time (none-drawn l z k (s .0)) number line (w .1))
 
 -- ---- the weights that a node is blended with
-pub copied : (results lent left : List Float) (n : ℕ) → Wrote results lent left n → length lent ≡ 64 → (n ≤ 64) × (take n left ≡ take 64 results)
+copied : (results lent left : List Float) (n : ℕ) → Wrote results lent left n → length lent ≡ 64 → (n ≤ 64) × (take n left ≡ take 64 results)
 copied results lent left n w size = (
   omega (arith, w .counted, size),
   ap (take n) (w .slice) ∙ take-at (take n results) (drop n lent) n (omega (arith, length-take n results, w .counted)) ∙ go (ltb (length results) 64) refl,
@@ -178,6 +182,12 @@ copied results lent left n w size = (
         let long = ltb-false (length results) 64 e in
         let whole : n ≡ 64 = omega (arith, w .counted, size, long) in
         ap (λ (m : ℕ). take m results) whole
+
+pub unposed : (nodeWeights meshWeights : List Float) (node : NodeRow) (mesh : MeshRow) (ws lent left : List Float) (n : ℕ)
+    → Effective nodeWeights meshWeights node mesh ws → Wrote ws lent left n → length lent ≡ 64 → Unposed nodeWeights meshWeights node mesh left n
+unposed nodeWeights meshWeights node mesh ws lent left n e w size =
+    let c = copied ws lent left n w size in
+    record { few = c .0; weights = λ words floats h. c .1 ∙ ap (take 64) (e .weights words floats h) }
 
 pub past-slots : (marks : List ℕ) (i : ℕ) → length marks / 4 ≤ i → 0 ≡ getD marks (i * 4 + 3) 0
 past-slots marks i h = sym (List·getD-eq-default marks 0 (omega (arith, h)))
@@ -230,6 +240,11 @@ cut zero (t ∷ ts) ws p h = absurd (omega (arith, h))
 cut (suc n) (t ∷ ts) [] p h = refl
 cut (suc n) (t ∷ ts) (w ∷ ws) p h = cut n ts ws (withTarget p t w) (omega (arith, h))
 
+map-alike : {A B : Type 0} (n : ℕ) (f : ℕ → A) (g h : A → B) → ((k : ℕ) → k < n → g (f k) ≡ h (f k)) → map g (tabulate n f) ≡ map h (tabulate n f)
+unfolding tabulate
+map-alike zero f g h e = refl
+map-alike (suc n) f g h e = λ j. e 0 (omega arith) j ∷ map-alike n (λ i. f (suc i)) g h (λ k b. e (suc k) (omega (arith, b))) j
+
 module _ (world : Matrix) (palette : Option (List Matrix)) (ws : List Float) where
   pub baked-cut : (p : Primitive) → length (p .targets) ≤ targetLimit → bakedPrimitive world palette (take targetLimit ws) p ≡ bakedPrimitive world palette ws p
   unfolding bakedPrimitive
@@ -244,3 +259,15 @@ module _ (world : Matrix) (palette : Option (List Matrix)) (ws : List Float) whe
       let within = leb (r .targets .count) targetLimit in
       let few = leb-true (r .targets .count) targetLimit (both skinned within (both shape (skinned && within) h .1) .1) in
       baked-cut (primitiveOf l r) (omega (arith, few, length-tabulate (r .targets .count) (λ k. targetOf l (targetRow (l .words) (l .header .meshes .targets) (r .targets .at + k)))))
+
+  -- and all primitives of a mesh of such tables
+  pub mesh-cut : (l : Lent) → tablesNumber l ≡ 0 → (m : ℕ) → m < l .header .meshes .meshes .count
+      → map (bakedPrimitive world palette (take targetLimit ws)) (meshOf l (meshRow (l .words) (l .header .meshes .meshes) m) .primitives)
+      ≡ map (bakedPrimitive world palette ws) (meshOf l (meshRow (l .words) (l .header .meshes .meshes) m) .primitives)
+  mesh-cut l z m b =
+      let all = meshRow (l .words) (l .header .meshes .meshes) m .primitives in
+      let fit = both (fitsIn all 1 (l .header .meshes .primitives .count)) (fitsIn (meshRow (l .words) (l .header .meshes .meshes) m .weights) 1 (length (l .meshWeights)))
+      (checked l z .records table.Meshes m b .0) in
+      let inside = leb-true (all .at + all .count * 1) (l .header .meshes .primitives .count) (fit .0) in
+      map-alike (all .count) (λ k. primitiveOf l (primitiveRow (l .words) (l .header .meshes .primitives) (all .at + k))) _ _
+      (λ k h. row-cut l (primitiveRow (l .words) (l .header .meshes .primitives) (all .at + k)) (checked l z .records table.Primitives (all .at + k) (omega (arith, inside, h)) .1))

@@ -1,5 +1,5 @@
 -- `bake::weighing::posed_weights` meets its contract. Assumes nothing.
-use mathlib.Core.Path.{_≡_, sym, ap, _∙_}
+use mathlib.Core.Path.{ap, _∙_}
 use borrow.Author.Needs.{needs}
 use Rattle.animation.specs.declared.SampledValue.{SampledValue}
 use Rattle.animation.specs.Values.{answerOf}
