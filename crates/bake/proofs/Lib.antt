@@ -7,3 +7,5 @@ pub mod Placed
 pub mod TablesRange
 pub mod TwoMakers
 pub mod PosedWeights
+pub mod Finishing
+pub mod Whole

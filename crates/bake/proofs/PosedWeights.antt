@@ -91,15 +91,16 @@ module _ (floats : List Float) (row : ChannelRow) (time : Float) where
   slice-of (value.Refused n) left = refl
 
   pub weighed : (t : animation.Track) (lent left : List Float) (s : SampledValue) (n : ℕ) → t ≡ trackFor row → length lent ≡ 64
-      → answerOf s left ≡ sampled (tableNumber floats t) (trackIn floats t) time lent → answerOf s left .weights ≡ n → Weighed floats row time left n
+      → answerOf s left ≡ sampled (tableNumber floats t) (trackIn floats t) time lent → answerOf s left .weights ≡ n → length left ≡ 64 → Weighed floats row time left n
   unfolding sampleNumber sampled
-  weighed t lent left s n e size h c =
+  weighed t lent left s n e size h c kept =
       let g = tableNumber floats (trackFor row) in
       let tr = trackIn floats (trackFor row) in
       let a : answerOf s left ≡ sampled g tr time lent = h ∙ ap (λ (x : animation.Track). sampled (tableNumber floats x) (trackIn floats x) time lent) e in
       let count : sampled g tr time lent .weights ≡ n = sym (ap (λ (x : Sampled). x .weights) a) ∙ c in
       let slice : sampled g tr time lent .slice ≡ left = sym (ap (λ (x : Sampled). x .slice) a) ∙ slice-of s left in
       record {
+        size = kept;
         few = subst (λ (m : ℕ). m ≤ 64) count (subst (λ (m : ℕ). sampled g tr time lent .weights ≤ m) size (few tr time g lent _ refl));
         weights = λ z k.
             sample-driving (row .target) (propertyFor (row .property)) tr time
@@ -184,10 +185,10 @@ copied results lent left n w size = (
         ap (λ (m : ℕ). take m results) whole
 
 pub unposed : (nodeWeights meshWeights : List Float) (node : NodeRow) (mesh : MeshRow) (ws lent left : List Float) (n : ℕ)
-    → Effective nodeWeights meshWeights node mesh ws → Wrote ws lent left n → length lent ≡ 64 → Unposed nodeWeights meshWeights node mesh left n
-unposed nodeWeights meshWeights node mesh ws lent left n e w size =
+    → Effective nodeWeights meshWeights node mesh ws → Wrote ws lent left n → length lent ≡ 64 → length left ≡ 64 → Unposed nodeWeights meshWeights node mesh left n
+unposed nodeWeights meshWeights node mesh ws lent left n e w size kept =
     let c = copied ws lent left n w size in
-    record { few = c .0; weights = λ words floats h. c .1 ∙ ap (take 64) (e .weights words floats h) }
+    record { size = kept; few = c .0; weights = λ words floats h. c .1 ∙ ap (take 64) (e .weights words floats h) }
 
 pub past-slots : (marks : List ℕ) (i : ℕ) → length marks / 4 ≤ i → 0 ≡ getD marks (i * 4 + 3) 0
 past-slots marks i h = sym (List·getD-eq-default marks 0 (omega (arith, h)))
@@ -211,6 +212,7 @@ module _ (l : Lent) (time : Float) (marks : List ℕ) (i : ℕ) (mesh : MeshRow)
   pub by-channel : (k : ℕ) → getD marks (i * 4 + 3) 0 ≡ suc k → Weighed (l .floats) (channelRow (l .words) (l .header .channels) k) time left r
       → Blending l time marks i mesh left r
   by-channel k e w = record {
+    size = w .size;
     few = w .few;
     weights = λ z number lines b lent slots space m.
         let p = by-word (suc k) e b lent slots space m in
@@ -224,6 +226,7 @@ module _ (l : Lent) (time : Float) (marks : List ℕ) (i : ℕ) (mesh : MeshRow)
   pub by-rows : (row : NodeRow) → getD marks (i * 4 + 3) 0 ≡ 0 → row ≡ nodeRow (l .words) (l .header .graph .nodes) i
       → Unposed (l .nodeWeights) (l .meshWeights) row mesh left r → Blending l time marks i mesh left r
   by-rows row e q u = record {
+    size = u .size;
     few = u .few;
     weights = λ z number lines b lent slots space m.
         let p = by-word 0 e b lent slots space m in

@@ -3,3 +3,4 @@ pub mod Baked
 pub mod Makers
 pub mod Skinned
 pub mod Weights
+pub mod Delivered

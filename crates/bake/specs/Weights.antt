@@ -5,7 +5,7 @@ use mathlib.Core.List.{List}
 use mathlib.Core.Option.{some}
 use Prim.Native.Nat.{ℕ, _≤_, _<_}
 use lib.Ieee.{Float, isNan}
-use lib.ListN.{take}
+use lib.ListN.{length, take}
 use Rattle.model.specs.Limits.{weightLimit}
 use Rattle.model.specs.Scene.{scalars, nodeCount, nodeAt}
 use Rattle.model.specs.Sampling.{sample}
@@ -26,12 +26,14 @@ use Rattle.pose.specs.Encoded.{encodedWords}
 
 -- the first r floats are the sampled value of a channel, where it has weights that can be sampled
 pub record Weighed (floats : List Float) (row : ChannelRow) (time : Float) (left : List Float) (r : ℕ) : Type 0 where
+  pub size : length left ≡ weightLimit
   pub few : r ≤ weightLimit
   pub weights : sampleNumber (tableNumber floats (trackFor row)) (channelIn floats row) time weightLimit ≡ 0 → channelIn floats row .kind ≡ scalars
       → sample (channelIn floats row) time ≡ some (take r left)
 
 -- they are the effective weights of the node and the mesh that two rows say, cut off at 64
 pub record Unposed (nodeWeights meshWeights : List Float) (node : NodeRow) (mesh : MeshRow) (left : List Float) (r : ℕ) : Type 0 where
+  pub size : length left ≡ weightLimit
   pub few : r ≤ weightLimit
   pub weights : (words : List ℕ) (floats : List Float) (h : Header)
       → take r left
@@ -39,6 +41,7 @@ pub record Unposed (nodeWeights meshWeights : List Float) (node : NodeRow) (mesh
 
 -- they are the weights that node i is blended with, cut off at 64, where the pose at the time stands in the slots
 pub record Blending (l : Lent) (time : Float) (marks : List ℕ) (i : ℕ) (mesh : MeshRow) (left : List Float) (r : ℕ) : Type 0 where
+  pub size : length left ≡ weightLimit
   pub few : r ≤ weightLimit
   pub weights : tablesNumber l ≡ 0 → isNan time ≡ false → someKeysOutOfLine (sceneOf l) ≡ false → i < nodeCount (sceneOf l)
       → (lent : List ℕ) (slots : List Float) → nodeCount (sceneOf l) ≤ room lent slots

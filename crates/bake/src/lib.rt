@@ -1,7 +1,14 @@
 // The bake of one node: `world_mesh_at` of pose.rs.
+use tables::Header;
+ghost use mathlib.Core.Path.{_≡_};
+ghost use Rattle.checks.specs.Drawn.{lentAs};
+ghost use Rattle.bake.specs.Baked.{Baked};
+
+mod delivery;
 mod numbers;
 mod palettes;
 mod posing;
+mod weighing;
 
 // A refusal number, or 0; how many floats were put out, and how many entries the placing took.
 #[repr(C)]
@@ -12,4 +19,83 @@ pub struct Answer {
     pub tangents: usize,
     pub taken: usize,
 }
-mod weighing;
+
+fn refused(number: u32) -> Answer
+    ensures { λ r. ⌜ r ≡ record { number = number; positions = 0; normals = 0; tangents = 0; taken = 0 } ⌝ }
+{
+    Answer {
+        number,
+        positions: 0,
+        normals: 0,
+        tangents: 0,
+        taken: 0,
+    }
+}
+
+// The mesh of a node in the world at a time: blended, skinned or transformed, its primitives one after the other in the
+// three outputs. The scratch room (pose slots, walk room, world slots) is lent, and holds the pose and the placing after.
+pub fn world_mesh_at<'a>(
+    words: &[u32],
+    floats: &[f32],
+    node_weights: &'a [f32],
+    mesh_weights: &'a [f32],
+    h: Header,
+    node: u32,
+    time: f32,
+    marks: &mut [u32],
+    slots: &mut [f32],
+    walk: &mut [u32],
+    places: &mut [u32],
+    worlds: &mut [f32],
+    positions: &mut [f32],
+    normals: &mut [f32],
+    tangents: &mut [f32],
+) -> Answer
+    ensures { λ r. ⌜ Baked (lentAs (now (words .entry)) (now (floats .entry)) (now («node_weights» .entry)) (now («mesh_weights» .entry)) h) node time (record { scratch = record { marks = now (marks .entry); slots = now (slots .entry); walk = now (walk .entry); places = now (places .entry); worlds = now (worlds .entry) }; output = record { positions = now (positions .entry); normals = now (normals .entry); tangents = now (tangents .entry) } }) (record { scratch = record { marks = now (marks .exit); slots = now (slots .exit); walk = now (walk .exit); places = now (places .exit); worlds = now (worlds .exit) }; output = record { positions = now (positions .exit); normals = now (normals .exit); tangents = now (tangents .exit) } }) r ⌝ }
+{
+    let number = numbers::first_number(
+        words,
+        floats,
+        node_weights,
+        mesh_weights,
+        h,
+        node,
+        time,
+        walk.len() / 2,
+        wire::least(marks.len() / 4, slots.len() / 10),
+        wire::least(places.len(), worlds.len() / 16),
+    );
+    if number != 0 {
+        return refused(number);
+    }
+    let taken = posing::pose_and_place(words, floats, h, time, marks, slots, walk, places, worlds);
+    let mesh = numbers::mesh_of(words, h, node);
+    let n = shapes::mesh_lengths(words, h.meshes.primitives, mesh.primitives);
+    let fit = numbers::fits(n, positions.len(), normals.len(), tangents.len());
+    let late = numbers::late_number(words, floats, h, node, places, fit);
+    if late != 0 {
+        return refused(late);
+    }
+    delivery::deliver(
+        words,
+        floats,
+        node_weights,
+        mesh_weights,
+        h,
+        node,
+        time,
+        marks,
+        places,
+        worlds,
+        positions,
+        normals,
+        tangents,
+    );
+    Answer {
+        number: 0,
+        positions: n.positions,
+        normals: n.normals,
+        tangents: n.tangents,
+        taken,
+    }
+}

@@ -1,3 +1,4 @@
+use crate::numbers::wide;
 use animation::Part;
 use animation::SampledValue;
 use tables::Header;
@@ -55,12 +56,6 @@ fn weights_word(marks: &[u32], i: usize) -> u32
         return marks[at];
     }
     0
-}
-
-fn wide(x: u32) -> usize
-    ensures { λ r. ⌜ r ≡ x ⌝ }
-{
-    x as usize
 }
 
 // The weights that a node's mesh is blended with, at the start of `out`: the posed ones, if there are any, otherwise the

@@ -15,7 +15,7 @@ returns : tie.Need-returns
 returns c = λ own mesh slots.
     let a = c .before .before .before .before .before .before .before .before .before .before .before .args in
     let placed = world-there (a .h .graph .nodes .count) (now (a .places)) slots (a .node) ∙ sym (c .before .before .before .before .before .before .is-placed .ensures) ∙ c .before .before .before .before .before .if1 .taken in
-    let row = c .before .before .before .node-row .ensures ∙ ap (nodeRow (now (a .words)) (a .h .graph .nodes)) (c .before .before .before .before .wide .ensures) in
+    let row = c .before .before .before .node-row .ensures ∙ ap (nodeRow (now (a .words)) (a .h .graph .nodes)) (c .before .before .before .before .wide .ensures .0) in
     let palette = sym (c .before .before .can-have-palette .ensures own mesh slots ∙ (λ j. isSome (paletteFrom (lentAs (now (a .words)) (now (a .floats)) own mesh (a .h)) (row j .skin) (now (a .places)) slots))) ∙ c .before .if2 .taken in
     sym (λ j. lateNumber (placed j) (palette j) (c .if3 .taken j))
 
@@ -23,7 +23,7 @@ returns-2 : tie.Need-returns-2
 returns-2 c = λ own mesh slots.
     let a = c .before .before .before .before .before .before .before .before .before .before .before .args in
     let placed = world-there (a .h .graph .nodes .count) (now (a .places)) slots (a .node) ∙ sym (c .before .before .before .before .before .before .is-placed .ensures) ∙ c .before .before .before .before .before .if1 .taken in
-    let row = c .before .before .before .node-row .ensures ∙ ap (nodeRow (now (a .words)) (a .h .graph .nodes)) (c .before .before .before .before .wide .ensures) in
+    let row = c .before .before .before .node-row .ensures ∙ ap (nodeRow (now (a .words)) (a .h .graph .nodes)) (c .before .before .before .before .wide .ensures .0) in
     let palette = sym (c .before .before .can-have-palette .ensures own mesh slots ∙ (λ j. isSome (paletteFrom (lentAs (now (a .words)) (now (a .floats)) own mesh (a .h)) (row j .skin) (now (a .places)) slots))) ∙ c .before .if2 .taken in
     sym (λ j. lateNumber (placed j) (palette j) (c .if3 .left j))
 
@@ -31,7 +31,7 @@ returns-3 : tie.Need-returns-3
 returns-3 c = λ own mesh slots.
     let a = c .before .before .before .before .before .before .before .before .before .before .args in
     let placed = world-there (a .h .graph .nodes .count) (now (a .places)) slots (a .node) ∙ sym (c .before .before .before .before .before .is-placed .ensures) ∙ c .before .before .before .before .if1 .taken in
-    let row = c .before .before .node-row .ensures ∙ ap (nodeRow (now (a .words)) (a .h .graph .nodes)) (c .before .before .before .wide .ensures) in
+    let row = c .before .before .node-row .ensures ∙ ap (nodeRow (now (a .words)) (a .h .graph .nodes)) (c .before .before .before .wide .ensures .0) in
     let palette = sym (c .before .can-have-palette .ensures own mesh slots ∙ (λ j. isSome (paletteFrom (lentAs (now (a .words)) (now (a .floats)) own mesh (a .h)) (row j .skin) (now (a .places)) slots))) ∙ c .if2 .left in
     sym (λ j. lateNumber (placed j) (palette j) (a .fit))
 

@@ -11,11 +11,11 @@ returns : tie.Need-returns
 returns c =
     let s = c .before .before .before .before .before .before in
     let a = s .args in
-    let wide = c .before .before .before .wide .ensures in
+    let wide = c .before .before .before .wide .ensures .0 in
     let row = c .before .before .node-row .ensures in
     c .mesh-row .ensures
     ∙ ap (meshRow (now (a .words)) (a .h .meshes .meshes))
-    (c .before .wide2 .ensures ∙ (λ j. row j .mesh .id) ∙ ap (λ (i : ℕ). nodeRow (now (a .words)) (a .h .graph .nodes) i .mesh .id) wide)
+    (c .before .wide2 .ensures .0 ∙ (λ j. row j .mesh .id) ∙ ap (λ (i : ℕ). nodeRow (now (a .words)) (a .h .graph .nodes) i .mesh .id) wide)
 
 pub mesh-of-spec : {M : Type 1} → statement M
 mesh-of-spec = tie.close (tie.spec (λ c κs. search needs) (λ c κs. search needs) (λ c κs. search needs) (λ c κs. search needs) returns)

@@ -20,16 +20,16 @@ returns c =
     let read = c .before .before .before .before in
     let s = read .before .before .before .before .before .before .before in
     let a = s .args in
-    let word = read .weights-word .ensures ∙ ap (λ (n : ℕ). getD (now (a .marks)) (n * 4 + 3) 0) (read .before .wide .ensures) in
+    let word = read .weights-word .ensures ∙ ap (λ (n : ℕ). getD (now (a .marks)) (n * 4 + 3) 0) (read .before .wide .ensures .0) in
     by-channel (lent s) (a .time) (now (a .marks)) (a .node) (a .mesh) _ _ _
-    (omega (arith, word, c .before .before .wide2 .ensures, c .before .before .before .if1 .taken)) (c .posed-weights .ensures)
+    (omega (arith, word, c .before .before .wide2 .ensures .0, c .before .before .before .if1 .taken)) (c .posed-weights .ensures)
 
 returns-2 : tie.Need-returns-2
 returns-2 c =
     let read = c .before .before .before .before in
     let s = read .before .before .before .before .before .before .before in
     let a = s .args in
-    let wide = read .before .wide .ensures in
+    let wide = read .before .wide .ensures .0 in
     let word = read .weights-word .ensures ∙ ap (λ (n : ℕ). getD (now (a .marks)) (n * 4 + 3) 0) wide in
     by-rows (lent s) (a .time) (now (a .marks)) (a .node) (a .mesh) _ _ _
     (sym word ∙ c .before .before .before .if1 .left)
