@@ -1,0 +1,92 @@
+// The C functions on skins and morph weights of a lent scene; include/skin_entries.h declares them.
+use skin::Answer;
+use skin::Root;
+use tables::Header;
+ghost use Rattle.model.specs.Written.{Wrote};
+ghost use Rattle.checks.specs.Drawn.{lentAs};
+ghost use Rattle.skin.specs.Calls.{Answered};
+ghost use Rattle.skin.specs.Roots.{RootAnswered};
+ghost use Rattle.skin_entries.specs.Handed.{Weighed};
+
+// Writes the palette of a node, from worlds that are given, to the start of `out`. Answers 1, 2, 6, 7, 9, 10 or 0.
+#[no_mangle]
+pub extern "C" fn joint_matrices_floats(
+    words: &[u32],
+    floats: &[f32],
+    node_weights: &[f32],
+    mesh_weights: &[f32],
+    header: Header,
+    node: u32,
+    places: &[u32],
+    worlds: &[f32],
+    out: &mut [f32],
+) -> Answer
+    ensures { λ r. ⌜ Answered (lentAs (now (words .entry)) (now (floats .entry)) (now («node_weights» .entry)) (now («mesh_weights» .entry)) header) node (now (places .entry)) (now (worlds .entry)) (now (out .entry)) (now (out .exit)) r ⌝ }
+{
+    skin::joint_matrices_with(
+        words,
+        floats,
+        node_weights,
+        mesh_weights,
+        header,
+        node,
+        places,
+        worlds,
+        out,
+    )
+}
+
+// The root of a skin. Answers 1, 2, 11 or 0, and the node.
+#[no_mangle]
+pub extern "C" fn skin_root(
+    words: &[u32],
+    floats: &[f32],
+    node_weights: &[f32],
+    mesh_weights: &[f32],
+    header: Header,
+    skin: u32,
+) -> Root
+    ensures { λ r. ⌜ RootAnswered (lentAs (now (words .entry)) (now (floats .entry)) (now («node_weights» .entry)) (now («mesh_weights» .entry)) header) skin r ⌝ }
+{
+    skin::skin_root(words, floats, node_weights, mesh_weights, header, skin)
+}
+
+// Copies to the start of `out` as much as there is room for, and answers how much.
+fn copy_into(part: &[f32], out: &mut [f32]) -> usize
+    ensures { λ r. ⌜ Wrote (now (part .entry)) (now (out .entry)) (now (out .exit)) r ⌝ }
+{
+    let n = wire::least(part.len(), out.len());
+    let mut i = 0;
+    while i < n {
+        out[i] = part[i];
+        i += 1;
+    }
+    n
+}
+
+// The weights that a node's mesh is blended with, copied to the start of `out` as far as there is room. Answers 1, 2, 7 or
+// 0, and the floats copied.
+#[no_mangle]
+pub extern "C" fn effective_weights_floats<'a>(
+    words: &[u32],
+    floats: &[f32],
+    node_weights: &'a [f32],
+    mesh_weights: &'a [f32],
+    header: Header,
+    node: u32,
+    out: &mut [f32],
+) -> Answer
+    ensures { λ r. ⌜ Weighed (lentAs (now (words .entry)) (now (floats .entry)) (now («node_weights» .entry)) (now («mesh_weights» .entry)) header) node (now (out .entry)) (now (out .exit)) r ⌝ }
+{
+    let number = skin::weights_number(words, floats, node_weights, mesh_weights, header, node);
+    let weights = skin::effective_morph_weights(
+        words,
+        floats,
+        node_weights,
+        mesh_weights,
+        header,
+        node,
+    );
+    let length = copy_into(weights, out);
+    Answer { number, length }
+}
