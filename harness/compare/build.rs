@@ -4,7 +4,14 @@
 use std::{env, path::PathBuf};
 
 const DEFAULT_FOLDER: &str = "../../target/staticlib";
-const LIBRARIES: [&str; 5] = ["entries", "track_entries", "byte_entries", "vertex_entries", "mesh_entries"];
+const LIBRARIES: [&str; 6] = [
+    "entries",
+    "track_entries",
+    "byte_entries",
+    "vertex_entries",
+    "mesh_entries",
+    "skin_entries",
+];
 
 fn main() {
     println!("cargo:rerun-if-changed=build.rs");

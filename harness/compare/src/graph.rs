@@ -193,7 +193,7 @@ impl Comparison {
     }
 }
 
-fn no_animation() -> Animation {
+pub fn no_animation() -> Animation {
     Animation {
         name: None,
         channels: Vec::new(),

@@ -24,6 +24,7 @@ mod port;
 mod pose;
 mod rng;
 mod sampling;
+mod skins;
 mod tables;
 mod tally;
 mod vertices;
@@ -34,7 +35,7 @@ use std::{env, io, process::ExitCode};
 type Area = (&'static str, fn() -> bool);
 
 /// From the leaves up.
-const AREAS: [Area; 8] = [
+const AREAS: [Area; 10] = [
     ("leaves", leaves::compare),
     ("matrices", matrices::compare),
     ("vertices", vertices::compare),
@@ -44,6 +45,7 @@ const AREAS: [Area; 8] = [
     ("pose", pose::compare),
     ("graph", graph::compare),
     ("morphs", morphs::compare),
+    ("skins", skins::compare),
 ];
 
 fn main() -> io::Result<ExitCode> {
@@ -92,4 +94,5 @@ fn speed() {
     pose::speed::measure();
     graph::speed::measure();
     morphs::speed::measure();
+    skins::speed::measure();
 }

@@ -4,11 +4,13 @@
 mod bytes;
 mod lent;
 mod mesh;
+mod skins;
 mod vertices;
 
 pub use bytes::*;
 pub use lent::*;
 pub use mesh::*;
+pub use skins::*;
 pub use vertices::*;
 
 pub mod scene;

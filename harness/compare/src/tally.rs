@@ -93,6 +93,13 @@ impl<const N: usize> Met<N> {
         self.counts[sort] += 1;
     }
 
+    /// Counts each sort that is met.
+    pub fn count_all(&mut self, is_met: &[bool; N]) {
+        for (count, is_met) in self.counts.iter_mut().zip(is_met) {
+            *count += u64::from(*is_met);
+        }
+    }
+
     /// The counts, to follow a line.
     pub fn note(&self) -> String {
         let all = self.names.iter().zip(&self.counts);

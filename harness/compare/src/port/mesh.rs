@@ -1,6 +1,6 @@
 //! The entry over vertices in flat slices.
 
-use super::{Part, Tables};
+use super::{Part, Tables, Vertices};
 
 mod foreign {
     use crate::port::Header;
@@ -24,15 +24,6 @@ mod foreign {
             tangents_len: usize,
         );
     }
-}
-
-/// Vertices as they lie, three floats a position or a normal and four a tangent;
-/// an attribute that is absent has none.
-#[derive(Clone, Debug, Default, PartialEq)]
-pub struct Vertices {
-    pub positions: Vec<f32>,
-    pub normals: Vec<f32>,
-    pub tangents: Vec<f32>,
 }
 
 /// Adds the targets of a part at these weights.

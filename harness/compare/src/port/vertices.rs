@@ -30,8 +30,9 @@ mod foreign {
     }
 }
 
-/// Three floats a position or a normal, four a tangent.
-#[derive(Clone, Debug, Default)]
+/// Vertices as they lie, three floats a position or a normal and four a tangent;
+/// an attribute that is absent has none.
+#[derive(Clone, Debug, Default, PartialEq)]
 pub struct Vertices {
     pub positions: Vec<f32>,
     pub normals: Vec<f32>,
@@ -68,11 +69,7 @@ pub struct Influences {
 }
 
 pub fn skinned(influences: &Influences, vertices: &mut Vertices) {
-    let (palette, joints, weights) = (
-        &influences.palette,
-        &influences.joints,
-        &influences.weights,
-    );
+    let (palette, joints, weights) = (&influences.palette, &influences.joints, &influences.weights);
     let (p, n, t) = (
         &mut vertices.positions,
         &mut vertices.normals,

@@ -17,10 +17,7 @@ pub const LENGTHS: [&str; 4] = ["absent", "shorter", "as long", "longer"];
 /// Any mesh; which lengths its attributes have is counted.
 pub fn vertices(rng: &mut Rng, met: &mut Met<4>) -> Vertices {
     let count = rng.below(MOST_VERTICES + 1) as usize;
-    let (normals, tangents) = (
-        row_count(rng, count, met),
-        row_count(rng, count, met),
-    );
+    let (normals, tangents) = (row_count(rng, count, met), row_count(rng, count, met));
     Vertices {
         positions: floats(rng, count, 3),
         normals: floats(rng, normals, 3),
