@@ -6,7 +6,7 @@ mod case;
 mod on_bytes;
 mod poses;
 pub mod scenes;
-mod sorts;
+pub mod sorts;
 pub mod speed;
 
 use crate::{

@@ -16,7 +16,7 @@ use crate::{
 };
 use case::{Case, Lens};
 use oracle::Scene3D;
-use sorts::{PALETTES, ROOTS, WEIGHTS};
+use sorts::{LISTINGS, PALETTES, ROOTS, WEIGHTS};
 use worlds::{Worlds, MORE_SLOTS};
 
 const GENERATED: usize = 40_000;
@@ -46,6 +46,7 @@ pub fn compare() -> bool {
 }
 
 struct Comparison {
+    listings: Met<{ LISTINGS.len() }>,
     palettes: Tally<(usize, usize)>,
     palette_sorts: Met<{ PALETTES.len() }>,
     short: Met<3>,
@@ -60,6 +61,7 @@ struct Comparison {
 impl Comparison {
     fn new() -> Self {
         Comparison {
+            listings: Met::new(LISTINGS),
             palettes: Tally::new(),
             palette_sorts: Met::new(PALETTES),
             short: Met::new(["places", "worlds", "output"]),
@@ -84,6 +86,7 @@ impl Comparison {
 
     /// Every node and skin, and ids that name none, lent compactly or spread.
     fn count(&mut self, scene: &Scene3D, rng: &mut Rng) {
+        self.listings.count_all(&sorts::listing(scene));
         let worlds = Worlds::random(rng, scene);
         let mut layout = match rng.below(2) {
             0 => Layout::Compact,
@@ -209,7 +212,9 @@ impl Comparison {
     fn report(&self) -> bool {
         let palettes = format!("{}; short{}", self.palette_sorts.note(), self.short.note());
         let (roots, weights) = (self.root_sorts.note(), self.weight_sorts.note());
+        println!("skins{}", self.listings.note().replacen(',', ":", 1));
         let all = [
+            self.listings.report(),
             self.palettes.report("palettes", "cases", &palettes),
             self.roots.report("skin roots", "cases", &roots),
             self.weights.report("effective weights", "cases", &weights),

@@ -52,14 +52,14 @@ pub fn sorts(scene: &Scene3D, posed: &Posed, answers: &Answers) -> [bool; SORTS.
     ]
 }
 
-fn is_any_twice(ids: &[NodeId]) -> bool {
+pub fn is_any_twice(ids: &[NodeId]) -> bool {
     let mut ids: Vec<u32> = ids.iter().map(|id| id.0).collect();
     ids.sort();
     !ids.is_sorted_by(|a, b| a < b)
 }
 
 /// Nodes with no open child are closed until nothing changes; a loop stays open.
-fn has_loop(scene: &Scene3D) -> bool {
+pub fn has_loop(scene: &Scene3D) -> bool {
     let mut is_open = vec![true; scene.nodes.len()];
     loop {
         let before = is_open.clone();

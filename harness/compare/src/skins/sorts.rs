@@ -1,8 +1,28 @@
-//! Which sorts of palettes, roots and weights a scene is asked for.
+//! Which sorts of listings there are, and of palettes, roots and weights that a
+//! scene is asked for.
 
 use super::case::Case;
-use crate::port::Mat4;
-use oracle::{NodeId, SkinId};
+use crate::{
+    graph::sorts::{has_loop, is_any_twice},
+    port::Mat4,
+};
+use oracle::{NodeId, Scene3D, SkinId};
+use std::collections::BTreeSet;
+
+pub const LISTINGS: [&str; 3] = ["loops", "repeated children", "shared children"];
+
+pub fn listing(scene: &Scene3D) -> [bool; LISTINGS.len()] {
+    let mut lists = scene.nodes.iter().map(|node| &node.children);
+    let distinct = lists
+        .clone()
+        .flat_map(|ids| ids.iter().collect::<BTreeSet<_>>());
+    let distinct: Vec<NodeId> = distinct.copied().collect();
+    [
+        has_loop(scene),
+        lists.any(|ids| is_any_twice(ids)),
+        is_any_twice(&distinct),
+    ]
+}
 
 pub const PALETTES: [&str; 14] = [
     "written",
@@ -136,10 +156,4 @@ pub fn weights(case: &Case, id: u32, room: usize) -> [bool; WEIGHTS.len()] {
         rust.is_some_and(<[f32]>::is_empty),
         rust.is_some_and(|weights| weights.len() > room),
     ]
-}
-
-fn is_any_twice(ids: &[NodeId]) -> bool {
-    let mut ids: Vec<u32> = ids.iter().map(|id| id.0).collect();
-    ids.sort();
-    !ids.is_sorted_by(|a, b| a < b)
 }
