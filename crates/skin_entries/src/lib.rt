@@ -2,7 +2,6 @@
 use skin::Answer;
 use skin::Root;
 use tables::Header;
-ghost use Rattle.model.specs.Written.{Wrote};
 ghost use Rattle.checks.specs.Drawn.{lentAs};
 ghost use Rattle.skin.specs.Calls.{Answered};
 ghost use Rattle.skin.specs.Roots.{RootAnswered};
@@ -51,19 +50,6 @@ pub extern "C" fn skin_root(
     skin::skin_root(words, floats, node_weights, mesh_weights, header, skin)
 }
 
-// Copies to the start of `out` as much as there is room for, and answers how much.
-fn copy_into(part: &[f32], out: &mut [f32]) -> usize
-    ensures { λ r. ⌜ Wrote (now (part .entry)) (now (out .entry)) (now (out .exit)) r ⌝ }
-{
-    let n = wire::least(part.len(), out.len());
-    let mut i = 0;
-    while i < n {
-        out[i] = part[i];
-        i += 1;
-    }
-    n
-}
-
 // The weights that a node's mesh is blended with, copied to the start of `out` as far as there is room. Answers 1, 2, 7 or
 // 0, and the floats copied.
 #[no_mangle]
@@ -87,6 +73,6 @@ pub extern "C" fn effective_weights_floats<'a>(
         header,
         node,
     );
-    let length = copy_into(weights, out);
+    let length = wire::copy_floats(weights, out);
     Answer { number, length }
 }

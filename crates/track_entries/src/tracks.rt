@@ -14,7 +14,6 @@ ghost use lib.ListN.{drop};
 ghost use Rattle.scene.specs.Values.{vec3, quat};
 ghost use Rattle.model.specs.Sampling.{inLine};
 ghost use Rattle.tables.specs.Tags.{isMarked};
-ghost use Rattle.model.specs.Written.{Wrote};
 ghost use Rattle.track_entries.specs.Tracks.{trackFor, sampledIn, frameNumberIn, frameIn, frameStrideIn, markOf, Delivered, Copied};
 
 pub(crate) fn track_for(
@@ -130,19 +129,6 @@ fn frame_in<'a>(floats: &'a [f32], t: Track, rows: bool, k: usize) -> &'a [f32]
     animation::morph_weight_frame(floats, t, k)
 }
 
-// Copies to the start of `out` as much as there is room for, and answers how much.
-fn copy_into(part: &[f32], out: &mut [f32]) -> usize
-    ensures { λ r. ⌜ Wrote (now (part .entry)) (now (out .entry)) (now (out .exit)) r ⌝ }
-{
-    let n = wire::least(part.len(), out.len());
-    let mut i = 0;
-    while i < n {
-        out[i] = part[i];
-        i += 1;
-    }
-    n
-}
-
 // The weights of frame k or, where the mark is not 0, all three rows, copied to the start of `out` as far as there is room.
 #[no_mangle]
 pub extern "C" fn frame_floats(
@@ -169,7 +155,7 @@ pub extern "C" fn frame_floats(
     );
     let rows = tables::is_marked(rows);
     let number = animation::frame_number(floats, t, rows, k);
-    let count = copy_into(frame_in(floats, t, rows, k), out);
+    let count = wire::copy_floats(frame_in(floats, t, rows, k), out);
     Told { number, count }
 }
 

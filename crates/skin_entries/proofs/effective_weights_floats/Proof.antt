@@ -5,7 +5,7 @@ use Rattle.skin_entries.proofs.effective_weights_floats.Statement.{stat
 use Rattle.skin_entries.proofs.effective_weights_floats.Tie as tie
 
 returns : tie.Need-returns
-returns c = copied-weights _ _ _ _ _ _ _ (c .before .before .before .before .before .weights-number .ensures) (c .before .before .before .before .effective-morph-weights .ensures) (c .before .before .copy-into .ensures)
+returns c = copied-weights _ _ _ _ _ _ _ (c .before .before .before .before .before .weights-number .ensures) (c .before .before .before .before .effective-morph-weights .ensures) (c .before .before .copy-floats .ensures)
 
 pub effective-weights-floats-spec : {M : Type 1} → statement M
 effective-weights-floats-spec =

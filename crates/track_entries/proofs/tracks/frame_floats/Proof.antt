@@ -5,7 +5,7 @@ use Rattle.track_entries.proofs.tracks.frame_floats.Statement.{statemen
 use Rattle.track_entries.proofs.tracks.frame_floats.Tie as tie
 
 returns : tie.Need-returns
-returns c = copied-part _ _ _ (c .before .before .before .before .before .before .before .track-for .ensures) _ _ _ _ _ _ _ _ (c .before .before .before .before .before .before .is-marked .ensures) (c .before .before .before .before .before .frame-number .ensures) (c .before .before .before .before .frame-in .ensures) (c .before .before .copy-into .ensures)
+returns c = copied-part _ _ _ (c .before .before .before .before .before .before .before .track-for .ensures) _ _ _ _ _ _ _ _ (c .before .before .before .before .before .before .is-marked .ensures) (c .before .before .before .before .before .frame-number .ensures) (c .before .before .before .before .frame-in .ensures) (c .before .before .copy-floats .ensures)
 
 pub frame-floats-spec : {M : Type 1} → statement M
 frame-floats-spec =
