@@ -4,13 +4,14 @@
 use std::{env, path::PathBuf};
 
 const DEFAULT_FOLDER: &str = "../../target/staticlib";
-const LIBRARIES: [&str; 6] = [
+const LIBRARIES: [&str; 7] = [
     "entries",
     "track_entries",
     "byte_entries",
     "vertex_entries",
     "mesh_entries",
     "skin_entries",
+    "bake_entries",
 ];
 
 fn main() {

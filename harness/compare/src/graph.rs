@@ -1,7 +1,7 @@
 //! Where nodes stand: `parents`, `place_floats` and `place` on listings of every
 //! sort, in poses of every sort.
 
-mod answers;
+pub mod answers;
 mod case;
 mod on_bytes;
 mod poses;

@@ -13,6 +13,7 @@
 //! the port's libraries, where they are not in their usual places (see the
 //! build scripts).
 
+mod bakes;
 mod graph;
 mod leaves;
 mod list;
@@ -35,7 +36,7 @@ use std::{env, io, process::ExitCode};
 type Area = (&'static str, fn() -> bool);
 
 /// From the leaves up.
-const AREAS: [Area; 10] = [
+const AREAS: [Area; 11] = [
     ("leaves", leaves::compare),
     ("matrices", matrices::compare),
     ("vertices", vertices::compare),
@@ -46,6 +47,7 @@ const AREAS: [Area; 10] = [
     ("graph", graph::compare),
     ("morphs", morphs::compare),
     ("skins", skins::compare),
+    ("bakes", bakes::compare),
 ];
 
 fn main() -> io::Result<ExitCode> {
@@ -95,4 +97,5 @@ fn speed() {
     graph::speed::measure();
     morphs::speed::measure();
     skins::speed::measure();
+    bakes::speed::measure();
 }

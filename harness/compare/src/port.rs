@@ -1,12 +1,14 @@
 //! The foreign functions, each safe to call: the port's entries and the C
 //! library's clock. No module outside has unsafe code.
 
+mod bakes;
 mod bytes;
 mod lent;
 mod mesh;
 mod skins;
 mod vertices;
 
+pub use bakes::*;
 pub use bytes::*;
 pub use lent::*;
 pub use mesh::*;

@@ -66,7 +66,7 @@ pub fn compare() -> bool {
 }
 
 /// Aims a channel at a property of its kind.
-fn fit(channel: &mut AnimationChannel) {
+pub fn fit(channel: &mut AnimationChannel) {
     let property = &mut channel.target.property;
     *property = match (&channel.sampler.values, *property) {
         (AnimationValues::Quat(_), _) => AnimationProperty::Rotation,
@@ -77,9 +77,9 @@ fn fit(channel: &mut AnimationChannel) {
 }
 
 /// A scene's animation.
-struct Moved {
+pub struct Moved {
     nodes: usize,
-    animation: Animation,
+    pub animation: Animation,
     /// Of each channel.
     tracks: Vec<Track>,
     /// The keys of every even track that is aimed at a node.
@@ -97,7 +97,7 @@ enum Fate {
 }
 
 impl Moved {
-    fn new(scene: &Scene3D, animation: Animation, rng: &mut Rng) -> Self {
+    pub fn new(scene: &Scene3D, animation: Animation, rng: &mut Rng) -> Self {
         let nodes = scene.nodes.len();
         let channels = animation.channels.iter();
         let tracks: Vec<Track> = channels
@@ -115,7 +115,7 @@ impl Moved {
         }
     }
 
-    fn time(&self, rng: &mut Rng) -> f32 {
+    pub fn time(&self, rng: &mut Rng) -> f32 {
         let keys = match self.tracks.len() {
             0 => &[],
             count => self.tracks[rng.below(count as u32) as usize].keys(),
@@ -123,7 +123,7 @@ impl Moved {
         time(rng, keys)
     }
 
-    fn number(&self, time: f32, marks: usize, slots: usize) -> u32 {
+    pub fn number(&self, time: f32, marks: usize, slots: usize) -> u32 {
         if time.is_nan() {
             3
         } else if !self.are_keys_in_line {

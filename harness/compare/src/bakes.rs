@@ -1,0 +1,198 @@
+//! The bake of one node: `bake_floats` on scenes of every sort. Turns between
+//! keys are left out, since they differ from the Rust's by their rule
+//! (sampling/values.rs).
+
+mod case;
+mod sorts;
+pub mod speed;
+
+use crate::{
+    port::Tables,
+    pose::{fit, Moved},
+    rng::Rng,
+    tables::{
+        build::lend,
+        generate::{scene, Sizes, SMALL},
+        layout::Layout,
+        numbers::number,
+    },
+    tally::{Met, Tally},
+};
+use case::{Case, Lens, LENT};
+use oracle::{Animation, AnimationValues, Interpolation, Scene3D};
+use sorts::SORTS;
+
+const SMALL_SCENES: usize = 80_000;
+const LARGE_SCENES: usize = 50;
+/// Of a scene, at most.
+const BAKED_NODES: u32 = 8;
+/// The word of a node that marks its mesh.
+const MESH_MARK: usize = 4;
+const ACCEPTED: u64 = 10_000;
+const NUMBERS: [u32; 9] = [1, 2, 3, 5, 6, 7, 8, 9, 10];
+const FEW_NODES: Sizes = Sizes {
+    nodes: 4,
+    joints: 3,
+    ..SMALL
+};
+const MANY_NODES: Sizes = Sizes {
+    nodes: 900,
+    children: 8,
+    roots: 60,
+    ..FEW_NODES
+};
+
+pub fn compare() -> bool {
+    let mut comparison = Comparison::new();
+    let mut rng = Rng::new(8);
+    for (count, sizes) in [(SMALL_SCENES, FEW_NODES), (LARGE_SCENES, MANY_NODES)] {
+        comparison.count_scenes(count, &sizes, &mut rng);
+    }
+    comparison.report()
+}
+
+fn step_turns(animation: &mut Animation) {
+    for channel in &mut animation.channels {
+        let sampler = &mut channel.sampler;
+        if let (AnimationValues::Quat(_), Interpolation::Linear) =
+            (&sampler.values, sampler.interpolation)
+        {
+            sampler.interpolation = Interpolation::Step;
+        }
+    }
+}
+
+struct Comparison {
+    tally: Tally<(usize, usize)>,
+    accepted: Met<1>,
+    sorts: Met<{ SORTS.len() }>,
+    short: Met<{ LENT.len() }>,
+    refused: Met<{ NUMBERS.len() }>,
+}
+
+impl Comparison {
+    fn new() -> Self {
+        Comparison {
+            tally: Tally::new(),
+            accepted: Met::new(["with a mesh"]),
+            sorts: Met::new(SORTS),
+            short: Met::new(LENT),
+            refused: Met::new(["1", "2", "3", "5", "6", "7", "8", "9", "10"]),
+        }
+    }
+
+    /// So many inside the limits, lent compactly or spread.
+    fn count_scenes(&mut self, count: usize, sizes: &Sizes, rng: &mut Rng) {
+        let mut scenes = 0;
+        while scenes < count {
+            let (scene, mut animation) = scene(rng, sizes);
+            animation.channels.iter_mut().for_each(fit);
+            step_turns(&mut animation);
+            let mut layout = match rng.below(2) {
+                0 => Layout::Compact,
+                _ => Layout::Spread(Rng::new(rng.bits())),
+            };
+            let lent = lend(&scene, &animation, &mut layout);
+            if number(&lent.of_port()) != 0 {
+                continue;
+            }
+            let moved = Moved::new(&scene, animation, rng);
+            let time = moved.time(rng);
+            let case = Case::new(&scene, &moved, lent.of_port(), time);
+            self.count_nodes(&case, rng);
+            if !scene.nodes.is_empty() {
+                self.count_faulty(&case);
+            }
+            scenes += 1;
+        }
+    }
+
+    /// With enough of everything, then with too little of each.
+    fn count_nodes(&mut self, case: &Case, rng: &mut Rng) {
+        for node in ids(case.scene.nodes.len() as u32, rng) {
+            let enough = case.lens(node).map(|len| len + rng.below(20) as usize);
+            self.count(case, node, enough);
+            for (of, len) in case.lens(node).into_iter().enumerate() {
+                if let Some(less) = len.checked_sub(1) {
+                    let mut lens = enough;
+                    lens[of] = less;
+                    self.short.count(of);
+                    self.count(case, node, lens);
+                }
+            }
+        }
+    }
+
+    /// Roots past the words, and a mark above 1, with room and without.
+    fn count_faulty(&mut self, case: &Case) {
+        let lent = case.lent;
+        let mut leaving = lent;
+        leaving.header.graph.roots.at = lent.words.len() + 1;
+        let mut words = lent.words.to_vec();
+        words[lent.header.graph.nodes.at + MESH_MARK] = 2;
+        let marked = Tables {
+            words: &words,
+            ..lent
+        };
+        for lent in [leaving, marked] {
+            let faulty = Case::new(case.scene, case.moved, lent, case.time);
+            self.count(&faulty, 0, case.lens(0));
+            self.count(&faulty, 0, [0; LENT.len()]);
+        }
+    }
+
+    fn count(&mut self, case: &Case, node: u32, lens: Lens) {
+        let (rust, port) = (case.expected(node, lens), case.bake(node, lens));
+        match NUMBERS.iter().position(|number| *number == rust.0.number) {
+            Some(k) => self.refused.count(k),
+            None => {
+                self.accepted.count(0);
+                self.sorts.count_all(&sorts::sorts(case, node));
+            }
+        }
+        self.tally.count(case.size(), rust == port, |_| {
+            let (asked, scene) = (format!("node {node} with {lens:?}"), shown(case.scene));
+            format!("{asked}, Rust {rust:x?}, port {port:x?}, of {scene}")
+        });
+    }
+
+    fn report(&self) -> bool {
+        let note = [
+            self.accepted.note(),
+            self.sorts.note(),
+            String::from("; short"),
+            self.short.note(),
+            String::from("; refused with"),
+            self.refused.note(),
+        ];
+        let all = [
+            self.tally.report("bakes", "cases", &note.concat()),
+            self.accepted.report_least(ACCEPTED),
+            self.sorts.report(),
+            self.short.report(),
+            self.refused.report(),
+        ];
+        !all.contains(&false)
+    }
+}
+
+/// Nodes, all where they are few, and ids that name none.
+fn ids(nodes: u32, rng: &mut Rng) -> Vec<u32> {
+    let mut ids = vec![nodes, rng.bits() as u32];
+    if nodes <= BAKED_NODES {
+        ids.extend(0..nodes);
+    } else {
+        ids.extend((0..BAKED_NODES).map(|_| rng.below(nodes)));
+    }
+    ids
+}
+
+fn shown(scene: &Scene3D) -> String {
+    let nodes = scene.nodes.iter();
+    let nodes: Vec<_> = nodes
+        .map(|n| (&n.transform, &n.children, n.mesh, n.skin, &n.weights))
+        .collect();
+    let (roots, skins, skeletons) = (&scene.roots, &scene.skins, &scene.skeletons);
+    let meshes = &scene.meshes;
+    format!("roots {roots:?}, nodes {nodes:?}, {meshes:?}, {skins:?}, {skeletons:?}")
+}

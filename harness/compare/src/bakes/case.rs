@@ -1,0 +1,198 @@
+//! A bake of a scene as it is lent, and what it is to answer and leave: the
+//! Rust's mesh where it gives one, and the added numbers of docs/TABLES.md.
+
+use crate::{
+    graph::answers::Answers,
+    port::{self, BakeRoom, Baked, Tables},
+    pose::Moved,
+    tables::numbers::number,
+    tally::{one_nan_bits, UNTOUCHED},
+};
+use oracle::{Mesh, NodeId, Pose, Scene3D};
+
+/// What is lent to a bake beside the tables: scratch room, then outputs.
+pub const LENT: [&str; 8] = [
+    "walk room",
+    "pose marks",
+    "pose floats",
+    "places",
+    "worlds",
+    "positions",
+    "normals",
+    "tangents",
+];
+/// How many words or floats of each.
+pub type Lens = [usize; LENT.len()];
+/// The first so many are scratch room.
+const SCRATCH: usize = 5;
+
+const SHORT_SCRATCH: u32 = 6;
+const NO_SUCH_MESH: u32 = 7;
+const UNPLACED: u32 = 8;
+const NO_PALETTE: u32 = 9;
+const SHORT_OUTPUT: u32 = 10;
+
+pub struct Case<'a> {
+    pub scene: &'a Scene3D,
+    pub moved: &'a Moved,
+    pub lent: Tables<'a>,
+    /// What the tables draw.
+    drawn: u32,
+    pub time: f32,
+    pub pose: Pose,
+    answers: Answers,
+}
+
+/// What a bake answers, and the bits in all that it is lent, all NaNs being one.
+type Left = (Baked, [Vec<u32>; LENT.len()]);
+
+impl<'a> Case<'a> {
+    pub fn new(scene: &'a Scene3D, moved: &'a Moved, lent: Tables<'a>, time: f32) -> Self {
+        let pose = moved.animation.sample_pose(time, scene.nodes.len());
+        Case {
+            scene,
+            moved,
+            lent,
+            drawn: number(&lent),
+            time,
+            answers: Answers::of(scene, &pose),
+            pose,
+        }
+    }
+
+    pub fn size(&self) -> (usize, usize) {
+        (self.scene.nodes.len(), self.lent.words.len())
+    }
+
+    /// The lengths that suffice.
+    pub fn lens(&self, node: u32) -> Lens {
+        let nodes = self.scene.nodes.len();
+        let [positions, normals, tangents] = self.outputs(node).map(|floats| floats.len());
+        let walk = 2 * self.answers.entries;
+        let (marks, slots, worlds) = (4 * nodes, 10 * nodes, 16 * nodes);
+        [
+            walk, marks, slots, nodes, worlds, positions, normals, tangents,
+        ]
+    }
+
+    pub fn bake(&self, node: u32, lens: Lens) -> Left {
+        let mut room = room(lens);
+        let baked = port::bake(&self.lent, node, self.time, &mut room);
+        (baked, bits_of(&room))
+    }
+
+    pub fn rust_mesh(&self, node: u32) -> Option<Mesh> {
+        let animation = &self.moved.animation;
+        self.scene.world_mesh_at(animation, self.time, NodeId(node))
+    }
+
+    /// The floats of the Rust's mesh, none where it gives no mesh.
+    fn outputs(&self, node: u32) -> [Vec<f32>; 3] {
+        let primitives = self.rust_mesh(node).map_or(Vec::new(), |m| m.primitives);
+        let all = primitives.iter();
+        [
+            all.clone().flat_map(|p| p.positions.concat()).collect(),
+            all.clone()
+                .flat_map(|p| p.normals.iter().flat_map(|rows| rows.concat()))
+                .collect(),
+            all.flat_map(|p| p.tangents.iter().flat_map(|rows| rows.concat()))
+                .collect(),
+        ]
+    }
+
+    /// The lowest that applies, or 0.
+    pub fn number(&self, node: u32, lens: Lens) -> u32 {
+        let enough = self.lens(node);
+        let is_short = |of: usize| lens[of] < enough[of];
+        let early = self.moved.number(self.time, usize::MAX, usize::MAX);
+        if self.drawn != 0 {
+            self.drawn
+        } else if early != 0 {
+            early
+        } else if (0..SCRATCH).any(is_short) {
+            SHORT_SCRATCH
+        } else if self.mesh(node).is_none() {
+            NO_SUCH_MESH
+        } else if self.answers.places[node as usize] == 0 {
+            UNPLACED
+        } else if self.rust_mesh(node).is_none() {
+            NO_PALETTE
+        } else if (SCRATCH..LENT.len()).any(is_short) {
+            SHORT_OUTPUT
+        } else {
+            0
+        }
+    }
+
+    pub fn mesh(&self, node: u32) -> Option<&Mesh> {
+        self.scene.mesh(self.scene.node(NodeId(node))?.mesh?)
+    }
+
+    pub fn expected(&self, node: u32, lens: Lens) -> Left {
+        let number = self.number(node, lens);
+        let mut room = room(lens);
+        if number == 0 || number >= UNPLACED {
+            self.put_scratch(&mut room);
+        }
+        if number != 0 {
+            let refused = Baked {
+                number,
+                ..Baked::default()
+            };
+            return (refused, bits_of(&room));
+        }
+        let [positions, normals, tangents] = self.outputs(node);
+        room.positions[..positions.len()].copy_from_slice(&positions);
+        room.normals[..normals.len()].copy_from_slice(&normals);
+        room.tangents[..tangents.len()].copy_from_slice(&tangents);
+        let baked = Baked {
+            number: 0,
+            positions: positions.len(),
+            normals: normals.len(),
+            tangents: tangents.len(),
+            taken: self.answers.taken,
+        };
+        (baked, bits_of(&room))
+    }
+
+    /// The pose as `sample_pose` leaves it, and the Rust's placing.
+    fn put_scratch(&self, room: &mut BakeRoom) {
+        let number = port::sample_pose(&self.lent, self.time, &mut room.marks, &mut room.slots);
+        assert_eq!(number, 0, "a pose that can be sampled");
+        room.walk.fill(0);
+        let (places, worlds) = (&self.answers.places, &self.answers.worlds);
+        room.places[..places.len()].copy_from_slice(places);
+        room.worlds[..worlds.len()].copy_from_slice(worlds);
+    }
+}
+
+/// As it is lent.
+pub fn room(lens: Lens) -> BakeRoom {
+    let [walk, marks, slots, places, worlds, positions, normals, tangents] = lens;
+    let words = |len| (0xdead_0000..).take(len).collect();
+    let floats = |len| vec![UNTOUCHED; len];
+    BakeRoom {
+        walk: words(walk),
+        marks: words(marks),
+        slots: floats(slots),
+        places: words(places),
+        worlds: floats(worlds),
+        positions: floats(positions),
+        normals: floats(normals),
+        tangents: floats(tangents),
+    }
+}
+
+fn bits_of(room: &BakeRoom) -> [Vec<u32>; LENT.len()] {
+    let bits = |floats: &[f32]| floats.iter().map(|x| one_nan_bits(*x)).collect();
+    [
+        room.walk.clone(),
+        room.marks.clone(),
+        bits(&room.slots),
+        room.places.clone(),
+        bits(&room.worlds),
+        bits(&room.positions),
+        bits(&room.normals),
+        bits(&room.tangents),
+    ]
+}
