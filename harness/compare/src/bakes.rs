@@ -1,6 +1,6 @@
-//! The bake of one node: `bake_floats` on scenes of every sort. Turns between
-//! keys are left out, since they differ from the Rust's by their rule
-//! (sampling/values.rs).
+//! The bake of one node: `bake_floats` on scenes of every sort. Where a track
+//! turns between its keys, which is compared by a rule of its own (pose.rs), the
+//! Rust starts from the port's rotations.
 
 mod case;
 mod sorts;
@@ -18,8 +18,8 @@ use crate::{
     },
     tally::{Met, Tally},
 };
-use case::{Case, Lens, LENT};
-use oracle::{Animation, AnimationValues, Interpolation, Scene3D};
+use case::{is_turn, Case, Lens, LENT};
+use oracle::{Animation, Interpolation, Scene3D};
 use sorts::SORTS;
 
 const SMALL_SCENES: usize = 80_000;
@@ -52,14 +52,8 @@ pub fn compare() -> bool {
 }
 
 fn step_turns(animation: &mut Animation) {
-    for channel in &mut animation.channels {
-        let sampler = &mut channel.sampler;
-        if let (AnimationValues::Quat(_), Interpolation::Linear) =
-            (&sampler.values, sampler.interpolation)
-        {
-            sampler.interpolation = Interpolation::Step;
-        }
-    }
+    let turns = animation.channels.iter_mut().filter(|c| is_turn(c));
+    turns.for_each(|channel| channel.sampler.interpolation = Interpolation::Step);
 }
 
 struct Comparison {
@@ -87,7 +81,9 @@ impl Comparison {
         while scenes < count {
             let (scene, mut animation) = scene(rng, sizes);
             animation.channels.iter_mut().for_each(fit);
-            step_turns(&mut animation);
+            if rng.below(4) > 0 {
+                step_turns(&mut animation);
+            }
             let mut layout = match rng.below(2) {
                 0 => Layout::Compact,
                 _ => Layout::Spread(Rng::new(rng.bits())),

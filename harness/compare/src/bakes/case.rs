@@ -8,7 +8,8 @@ use crate::{
     tables::numbers::number,
     tally::{one_nan_bits, UNTOUCHED},
 };
-use oracle::{Mesh, NodeId, Pose, Scene3D};
+use oracle::{AnimationChannel, AnimationValues, Interpolation, Mesh, NodeId, Pose, Scene3D};
+use std::array::from_fn;
 
 /// What is lent to a bake beside the tables: scratch room, then outputs.
 pub const LENT: [&str; 8] = [
@@ -39,7 +40,10 @@ pub struct Case<'a> {
     /// What the tables draw.
     drawn: u32,
     pub time: f32,
+    /// With the port's rotations where there are turns.
     pub pose: Pose,
+    /// Whether a track turns between its keys.
+    pub has_turns: bool,
     answers: Answers,
 }
 
@@ -48,7 +52,11 @@ type Left = (Baked, [Vec<u32>; LENT.len()]);
 
 impl<'a> Case<'a> {
     pub fn new(scene: &'a Scene3D, moved: &'a Moved, lent: Tables<'a>, time: f32) -> Self {
-        let pose = moved.animation.sample_pose(time, scene.nodes.len());
+        let mut pose = moved.animation.sample_pose(time, scene.nodes.len());
+        let has_turns = moved.animation.channels.iter().any(is_turn);
+        if has_turns {
+            take_rotations(&mut pose, &lent, time);
+        }
         Case {
             scene,
             moved,
@@ -57,6 +65,7 @@ impl<'a> Case<'a> {
             time,
             answers: Answers::of(scene, &pose),
             pose,
+            has_turns,
         }
     }
 
@@ -83,7 +92,24 @@ impl<'a> Case<'a> {
 
     pub fn rust_mesh(&self, node: u32) -> Option<Mesh> {
         let animation = &self.moved.animation;
-        self.scene.world_mesh_at(animation, self.time, NodeId(node))
+        if self.has_turns {
+            self.rust_mesh_in_pose(node)
+        } else {
+            self.scene.world_mesh_at(animation, self.time, NodeId(node))
+        }
+    }
+
+    /// The weights of the pose become the node's own, since the Rust takes no pose.
+    fn rust_mesh_in_pose(&self, node: u32) -> Option<Mesh> {
+        let mut scene = self.scene.clone();
+        if let Some(Some(weights)) = self.pose.morph_weights.get(node as usize) {
+            scene.nodes[node as usize].weights.clone_from(weights);
+            if weights.is_empty() {
+                scene.meshes.iter_mut().for_each(|m| m.weights.clear());
+            }
+        }
+        let worlds = scene.posed_node_transforms(&self.pose);
+        scene.world_mesh_with(NodeId(node), &worlds)
     }
 
     /// The floats of the Rust's mesh, none where it gives no mesh.
@@ -163,6 +189,24 @@ impl<'a> Case<'a> {
         let (places, worlds) = (&self.answers.places, &self.answers.worlds);
         room.places[..places.len()].copy_from_slice(places);
         room.worlds[..worlds.len()].copy_from_slice(worlds);
+    }
+}
+
+pub fn is_turn(channel: &AnimationChannel) -> bool {
+    let sampler = &channel.sampler;
+    matches!(sampler.values, AnimationValues::Quat(_))
+        && sampler.interpolation == Interpolation::Linear
+}
+
+/// The port's, where it gives a pose.
+fn take_rotations(pose: &mut Pose, lent: &Tables, time: f32) {
+    let nodes = pose.node_count();
+    let (mut marks, mut slots) = (vec![0; 4 * nodes], vec![0.0; 10 * nodes]);
+    if port::sample_pose(lent, time, &mut marks, &mut slots) == 0 {
+        for (node, rotation) in pose.rotations.iter_mut().enumerate() {
+            let is_posed = marks[4 * node + 1] != 0;
+            *rotation = is_posed.then(|| from_fn(|k| slots[10 * node + 3 + k]));
+        }
     }
 }
 

@@ -3,7 +3,7 @@
 use super::case::Case;
 use oracle::{MorphTarget, NodeId, Primitive};
 
-pub const SORTS: [&str; 12] = [
+pub const SORTS: [&str; 13] = [
     "rigid",
     "skinned",
     "with a skin and no influences",
@@ -16,6 +16,7 @@ pub const SORTS: [&str; 12] = [
     "without tangents",
     "of more than one primitive",
     "without vertices",
+    "with turns",
 ];
 
 pub fn sorts(case: &Case, node: u32) -> [bool; SORTS.len()] {
@@ -46,6 +47,7 @@ pub fn sorts(case: &Case, node: u32) -> [bool; SORTS.len()] {
         has_any(|p| p.tangents.is_none()),
         mesh.primitives.len() > 1,
         mesh.primitives.iter().all(|p| p.positions.is_empty()),
+        case.has_turns,
     ]
 }
 
