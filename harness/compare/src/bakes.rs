@@ -22,8 +22,11 @@ use case::{is_turn, Case, Lens, LENT};
 use oracle::{Animation, Interpolation, Scene3D};
 use sorts::SORTS;
 
-const SMALL_SCENES: usize = 80_000;
+const SMALL_SCENES: usize = 100_000;
 const LARGE_SCENES: usize = 50;
+/// Of the long run, which has other scenes.
+const LONG_SMALL_SCENES: usize = 10_000_000;
+const LONG_LARGE_SCENES: usize = 5_000;
 /// Of a scene, at most.
 const BAKED_NODES: u32 = 8;
 /// The word of a node that marks its mesh.
@@ -43,9 +46,17 @@ const MANY_NODES: Sizes = Sizes {
 };
 
 pub fn compare() -> bool {
+    compare_scenes(SMALL_SCENES, LARGE_SCENES, 8)
+}
+
+pub fn compare_long() -> bool {
+    compare_scenes(LONG_SMALL_SCENES, LONG_LARGE_SCENES, 9)
+}
+
+fn compare_scenes(small: usize, large: usize, seed: u64) -> bool {
     let mut comparison = Comparison::new();
-    let mut rng = Rng::new(8);
-    for (count, sizes) in [(SMALL_SCENES, FEW_NODES), (LARGE_SCENES, MANY_NODES)] {
+    let mut rng = Rng::new(seed);
+    for (count, sizes) in [(small, FEW_NODES), (large, MANY_NODES)] {
         comparison.count_scenes(count, &sizes, &mut rng);
     }
     comparison.report()

@@ -2,8 +2,10 @@
 //! From the folder harness:
 //!
 //! ```text
-//! cargo run --release -- gate     every comparison; status 1 where an area differs
+//! cargo run --release -- gate     every comparison, or of one area with its name
+//!                                 behind; status 1 where an area differs
 //! cargo run --release -- roots    the root on all 2^32 patterns
+//! cargo run --release -- long     the bakes of 10^7 scenes
 //! cargo run --release -- speed    CPU time of both sides
 //! cargo run --release -- list     the Rust's answers, for crates/replay; with
 //!                                 the word samples those for crates/replay_samples
@@ -15,6 +17,7 @@
 
 mod bakes;
 mod graph;
+mod headers;
 mod leaves;
 mod list;
 mod matrices;
@@ -36,7 +39,8 @@ use std::{env, io, process::ExitCode};
 type Area = (&'static str, fn() -> bool);
 
 /// From the leaves up.
-const AREAS: [Area; 11] = [
+const AREAS: [Area; 12] = [
+    ("headers", headers::compare),
     ("leaves", leaves::compare),
     ("matrices", matrices::compare),
     ("vertices", vertices::compare),
@@ -54,13 +58,15 @@ fn main() -> io::Result<ExitCode> {
     let arguments: Vec<String> = env::args().skip(1).collect();
     let arguments: Vec<&str> = arguments.iter().map(String::as_str).collect();
     match arguments[..] {
-        ["gate"] => return Ok(status(gate())),
+        ["gate"] => return Ok(status(gate(""))),
+        ["gate", area] => return Ok(status(gate(area))),
+        ["long"] => return Ok(status(bakes::compare_long())),
         ["roots"] => return Ok(status(leaves::roots::compare_all())),
         ["speed"] => speed(),
         ["list"] => list::write(&mut io::stdout().lock())?,
         ["list", "samples"] => sampling::list::write(&mut io::stdout().lock())?,
         _ => {
-            eprintln!("usage: compare gate | roots | speed | list [samples]");
+            eprintln!("usage: compare gate [AREA] | roots | long | speed | list [samples]");
             return Ok(ExitCode::from(2));
         }
     }
@@ -75,12 +81,15 @@ fn status(equal: bool) -> ExitCode {
     }
 }
 
-/// Stops after the first area that differs.
-fn gate() -> bool {
-    AREAS.iter().all(|(name, compare)| {
+/// Of all areas, or of the one that is named. Stops after the first that differs.
+fn gate(area: &str) -> bool {
+    let mut areas = AREAS
+        .iter()
+        .filter(|(name, _)| area.is_empty() || *name == area);
+    areas.all(|(name, compare)| {
         let equal = compare();
         if !equal {
-            eprintln!("{name}: the port differs from the Rust");
+            eprintln!("{name}: something differs");
         }
         equal
     })
