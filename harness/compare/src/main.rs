@@ -6,7 +6,7 @@
 //!                                 behind; status 1 where an area differs
 //! cargo run --release -- roots    the root on all 2^32 patterns
 //! cargo run --release -- long     the bakes of 10^7 scenes
-//! cargo run --release -- speed    CPU time of both sides
+//! cargo run --release -- speed    CPU time of both sides, or of one area
 //! cargo run --release -- list     the Rust's answers, for crates/replay; with
 //!                                 the word samples those for crates/replay_samples
 //! ```
@@ -54,6 +54,20 @@ const AREAS: [Area; 12] = [
     ("bakes", bakes::compare),
 ];
 
+/// A name, and measurements that are printed.
+const SPEEDS: [(&str, fn()); 10] = [
+    ("leaves", leaves::speed::measure),
+    ("matrices", matrices::speed::measure),
+    ("vertices", vertices::speed::measure),
+    ("sampling", sampling::speed::measure),
+    ("tables", tables::speed::measure),
+    ("pose", pose::speed::measure),
+    ("graph", graph::speed::measure),
+    ("morphs", morphs::speed::measure),
+    ("skins", skins::speed::measure),
+    ("bakes", bakes::speed::measure),
+];
+
 fn main() -> io::Result<ExitCode> {
     let arguments: Vec<String> = env::args().skip(1).collect();
     let arguments: Vec<&str> = arguments.iter().map(String::as_str).collect();
@@ -62,11 +76,12 @@ fn main() -> io::Result<ExitCode> {
         ["gate", area] => return Ok(status(gate(area))),
         ["long"] => return Ok(status(bakes::compare_long())),
         ["roots"] => return Ok(status(leaves::roots::compare_all())),
-        ["speed"] => speed(),
+        ["speed"] => speed(""),
+        ["speed", area] => speed(area),
         ["list"] => list::write(&mut io::stdout().lock())?,
         ["list", "samples"] => sampling::list::write(&mut io::stdout().lock())?,
         _ => {
-            eprintln!("usage: compare gate [AREA] | roots | long | speed | list [samples]");
+            eprintln!("usage: compare gate [AREA] | roots | long | speed [AREA] | list [samples]");
             return Ok(ExitCode::from(2));
         }
     }
@@ -95,16 +110,10 @@ fn gate(area: &str) -> bool {
     })
 }
 
-fn speed() {
-    measure::print_heading();
-    leaves::speed::measure();
-    matrices::speed::measure();
-    vertices::speed::measure();
-    sampling::speed::measure();
-    tables::speed::measure();
-    pose::speed::measure();
-    graph::speed::measure();
-    morphs::speed::measure();
-    skins::speed::measure();
-    bakes::speed::measure();
+fn speed(area: &str) {
+    measure::start();
+    let areas = SPEEDS
+        .iter()
+        .filter(|(name, _)| area.is_empty() || *name == area);
+    areas.for_each(|(_, measure)| measure());
 }

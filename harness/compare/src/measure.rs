@@ -1,13 +1,16 @@
 //! Timing of the port beside the Rust: CPU time, both sides in turn within one
 //! run, so that a slow moment of the machine meets both.
 
-use crate::port::cpu_time;
+use crate::port::{cpu_time, keep_heap};
 
 const ROUNDS: usize = 41;
 /// CPU time of one side in one round, in nanoseconds.
 const ROUND_TIME: f64 = 1e6;
 
-pub fn print_heading() {
+/// Before all measurements. What the Rust frees stays with the process, so that
+/// new pages are not paid for again by each call.
+pub fn start() {
+    keep_heap();
     println!(
         "{:<34} {:>17} {:>17} {:>7}",
         "ns per result, least / median", "port", "Rust", "ratio"

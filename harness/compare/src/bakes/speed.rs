@@ -9,28 +9,58 @@ use crate::{
     port,
     pose::Moved,
     rng::Rng,
+    sampling::speed::vectors,
     tables::{build::lend, layout::Layout},
 };
-use oracle::{InBetween, Mesh, MorphTarget, NodeId, Primitive, Scene3D, Skeleton, Skin, SkinId};
+use oracle::{
+    Animation, AnimationChannel, AnimationProperty, AnimationSampler, Interpolation, Mesh,
+    MorphTarget, NodeId, Primitive, Scene3D, Skeleton, Skin, SkinId,
+};
 use std::{array::from_fn, hint::black_box, iter::repeat_with};
 
-const VERTICES: usize = 16_384;
+/// How time grows with the vertices of a mesh, and with the nodes of a scene.
+const VERTICES: [usize; 3] = [1_024, 16_384, 65_535];
+const NODES: [u32; 3] = [64, 256, 1_024];
 const JOINTS: u32 = 64;
-const TARGETS: usize = 4;
+const TARGETS: usize = 8;
+const KEYS: usize = 64;
 
 pub fn measure() {
     let mut rng = Rng::new(1);
-    let rigid = with_mesh(&mut rng, 1, VERTICES);
-    measure_scene("bake, rigid", VERTICES, &rigid);
-    let mut skinned = with_mesh(&mut rng, JOINTS, VERTICES);
-    add_skin(&mut skinned, &mut rng);
-    measure_scene("bake, skinned by 64 joints", VERTICES, &skinned);
-    let mut morphed = with_mesh(&mut rng, 1, VERTICES);
-    add_targets(&mut morphed, &mut rng);
-    measure_scene("bake, morphed by 4 targets", VERTICES, &morphed);
-    let nodes = 1_024;
-    let tall = with_mesh(&mut rng, nodes, 8);
-    measure_scene("bake, 1,024 nodes", nodes as usize, &tall);
+    let still = no_animation();
+    for vertices in VERTICES {
+        let rigid = with_mesh(&mut rng, 1, vertices);
+        let name = |sort: &str| format!("bake, {sort}, vertices {vertices}");
+        measure_scene(&name("rigid"), vertices, &rigid, &still);
+        let mut skinned = with_mesh(&mut rng, JOINTS, vertices);
+        add_skin(&mut skinned, &mut rng);
+        measure_scene(&name("skinned"), vertices, &skinned, &still);
+        let mut morphed = rigid;
+        add_targets(&mut morphed, &mut rng);
+        measure_scene(&name("morphed"), vertices, &morphed, &still);
+    }
+    for nodes in NODES {
+        let scene = with_mesh(&mut rng, nodes, 8);
+        let moved = translations(&mut rng, nodes);
+        let name = |sort: &str| format!("bake, {sort}, nodes {nodes}");
+        measure_scene(&name("still"), nodes as usize, &scene, &still);
+        measure_scene(&name("a channel each"), nodes as usize, &scene, &moved);
+    }
+}
+
+/// A Linear channel for each node.
+fn translations(rng: &mut Rng, nodes: u32) -> Animation {
+    let mut sampler = || AnimationSampler {
+        keyframes: (0..KEYS).map(|k| k as f32 / 32.0).collect(),
+        values: vectors(rng, KEYS),
+        interpolation: Interpolation::Linear,
+    };
+    let channel =
+        |node| AnimationChannel::new(NodeId(node), AnimationProperty::Translation, sampler());
+    Animation {
+        name: None,
+        channels: (0..nodes).map(channel).collect(),
+    }
 }
 
 /// A tree whose root has a mesh of one primitive.
@@ -60,9 +90,10 @@ fn rows<const N: usize>(rng: &mut Rng, count: usize) -> Vec<[f32; N]> {
 /// Four influences that count for each vertex.
 fn add_skin(scene: &mut Scene3D, rng: &mut Rng) {
     let primitive = &mut scene.meshes[0].primitives[0];
+    let vertices = primitive.positions.len();
     let joints = repeat_with(|| from_fn(|_| rng.below(JOINTS)));
-    primitive.joints = Some(joints.take(VERTICES).collect());
-    primitive.weights = Some(vec![[0.25; 4]; VERTICES]);
+    primitive.joints = Some(joints.take(vertices).collect());
+    primitive.weights = Some(vec![[0.25; 4]; vertices]);
     let skeleton = scene.add_skeleton(Skeleton {
         name: None,
         joints: (0..JOINTS).map(NodeId).collect(),
@@ -72,29 +103,26 @@ fn add_skin(scene: &mut Scene3D, rng: &mut Rng) {
     scene.nodes[0].skin = Some(SkinId(0));
 }
 
-/// Each with positions, normals and an in-between.
+/// Each with positions, normals and tangents.
 fn add_targets(scene: &mut Scene3D, rng: &mut Rng) {
-    let mut slot = || Some(rows(rng, VERTICES));
+    let primitive = &mut scene.meshes[0].primitives[0];
+    let vertices = primitive.positions.len();
     let target = || MorphTarget {
-        position: slot(),
-        normal: slot(),
-        tangent: None,
-        inbetweens: vec![InBetween {
-            weight: 0.5,
-            position: slot(),
-            normal: slot(),
-        }],
+        position: Some(rows(rng, vertices)),
+        normal: Some(rows(rng, vertices)),
+        tangent: Some(rows(rng, vertices)),
+        inbetweens: Vec::new(),
     };
-    scene.meshes[0].primitives[0].targets = repeat_with(target).take(TARGETS).collect();
+    primitive.targets = repeat_with(target).take(TARGETS).collect();
     scene.meshes[0].weights = vec![0.75; TARGETS];
 }
 
-fn measure_scene(name: &str, results: usize, scene: &Scene3D) {
-    let lent = lend(scene, &no_animation(), &mut Layout::Compact);
-    let moved = Moved::new(scene, no_animation(), &mut Rng::new(1));
-    let case = Case::new(scene, &moved, lent.of_port(), 0.0);
+fn measure_scene(name: &str, results: usize, scene: &Scene3D, animation: &Animation) {
+    let lent = lend(scene, animation, &mut Layout::Compact);
+    let moved = Moved::new(scene, animation.clone(), &mut Rng::new(1));
+    let case = Case::new(scene, &moved, lent.of_port(), 1.0);
     let mut room = room(case.lens(0));
-    let mut bake = || port::bake(black_box(&case.lent), 0, 0.0, black_box(&mut room));
+    let mut bake = || port::bake(black_box(&case.lent), 0, 1.0, black_box(&mut room));
     assert_eq!(bake().number, 0, "the speed of a refusal");
     side_by_side(
         name,
