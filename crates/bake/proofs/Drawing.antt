@@ -8,6 +8,7 @@ use lib.ListN.{length}
 use Rattle.model.specs.Lists.{pick}
 use Rattle.model.specs.Scene.{nodeCount}
 use Rattle.model.specs.Refusals.{firstOf, lowest, someKeysOutOfLine, Scratch, scratchIsShort, earlyNumber}
+use Rattle.model.proofs.Numbers.{lowest-some}
 use Rattle.tables.specs.Decoded.{Lent, sceneOf}
 use Rattle.tables.proofs.Decoding.{node-count}
 use Rattle.checks.specs.Drawn.{tablesNumber}
@@ -19,16 +20,11 @@ use Rattle.worlds.proofs.Answering.{short-is}
 use Rattle.worlds.proofs.Delivering.{enough}
 use Rattle.bake.specs.Scratch.{Slices, roomOf, Ready}
 
--- a number that is drawn comes before every other
-pub first-early : (g n : ℕ) → (g ≡ 0 → ⊥) → g ≡ lowest g n
-first-early zero n d = absurd (d refl)
-first-early (suc g) n d = refl
-
 -- ---- 1 to 6
 module _ (l : Lent) (time : Float) (room : Scratch) where
   pub drawn-first : (g : ℕ) → g ≡ tablesNumber l → (g ≡ 0 → ⊥) → g ≡ earlyNumber (tablesNumber l) (sceneOf l) time room
   unfolding earlyNumber
-  drawn-first g e d = first-early g _ d ∙ ap (λ (k : ℕ). earlyNumber k (sceneOf l) time room) e
+  drawn-first g e d = lowest-some g _ d ∙ ap (λ (k : ℕ). earlyNumber k (sceneOf l) time room) e
 
   pub early-tests : (n k b : Bool) → tablesNumber l ≡ 0 → isNan time ≡ n → someKeysOutOfLine (sceneOf l) ≡ k → scratchIsShort (sceneOf l) room ≡ b
       → pick n 3 (pick k 5 (pick b 6 0)) ≡ earlyNumber (tablesNumber l) (sceneOf l) time room

@@ -15,7 +15,7 @@ use Rattle.model.specs.Matrix.{Matrix, mul}
 use Rattle.model.specs.Scene.{Skin, Skeleton, skeletonOf}
 use Rattle.model.specs.Skin.{products, bindsOf, paletteOf}
 use Rattle.model.specs.Bake.{paletteWith, Output}
-use Rattle.model.proofs.RowLaws.{flat, Rows, flat-length, row-of-flat}
+use Rattle.model.proofs.RowLaws.{flat, Rows, flat-length, row-of-flat, product-length}
 use Rattle.model.proofs.Rowwise.{tabulate-alike, tabulate-entries}
 use Rattle.tables.specs.declared.Reference.{Reference}
 use Rattle.tables.specs.Records.{skeletonRow}
@@ -23,7 +23,6 @@ use Rattle.tables.specs.Tags.{isMarked}
 use Rattle.tables.specs.Decoded.{Lent, sceneOf}
 use Rattle.tables.proofs.Decoding.{skeleton-at, no-skeleton}
 use Rattle.shapes.specs.Rest.{PutOut}
-use Rattle.worlds.proofs.Stepping.{product-length}
 use Rattle.skin.specs.Palette.{laidOut}
 use Rattle.skin.proofs.Rows.{laid}
 use Rattle.bake.specs.Skinned.{worldFrom, skinPaletteFrom, paletteFrom, SkeletonsWithin}

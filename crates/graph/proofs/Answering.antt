@@ -13,6 +13,7 @@ use Rattle.model.specs.Scene.{Node, nodeCount, childrenAt}
 use Rattle.model.specs.Placing.{unplaced}
 use Rattle.model.specs.Parents.{markRoots, explore, marksOf}
 use Rattle.model.specs.Refusals.{shortOutput, firstOf, lowest}
+use Rattle.model.proofs.Numbers.{lowest-some}
 use Rattle.tables.specs.Decoded.{Lent, spanIn, sceneOf}
 use Rattle.tables.specs.Codes.{codesOf}
 use Rattle.tables.proofs.Decoding.{node-count, node-at}
@@ -20,10 +21,6 @@ use Rattle.checks.specs.Drawn.{tablesNumber}
 use Rattle.checks.proofs.Clearing.{checked}
 use Rattle.graph.specs.Stack.{Marked}
 use Rattle.graph.specs.Marks.{parentsNumber, Parents}
-
-lowest-some : (g n : ℕ) → (g ≡ 0 → ⊥) → g ≡ lowest g n
-lowest-some zero n d = absurd (d refl)
-lowest-some (suc g) n d = refl
 
 module _ (l : Lent) (lent : List ℕ) where
   pub refused : (r : ℕ) → r ≡ tablesNumber l → (r ≡ 0 → ⊥) → Parents l lent lent r

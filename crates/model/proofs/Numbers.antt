@@ -24,6 +24,11 @@ first-le n (t ∷ ts) h = go (t .applies) (first-le n ts (h .1))
     go true rest = h .0
     go false rest = rest
 
+-- a number that is drawn comes before every other
+pub lowest-some : (g n : ℕ) → (g ≡ 0 → ⊥) → g ≡ lowest g n
+lowest-some zero n d = absurd (d refl)
+lowest-some (suc g) n d = refl
+
 lowest-le : (g k n : ℕ) → g ≤ n → k ≤ n → lowest g k ≤ n
 lowest-le zero k n a b = b
 lowest-le (suc g) k n a b = a

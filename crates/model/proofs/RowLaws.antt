@@ -7,7 +7,9 @@ use native.Mathlib.Omega.{arith}
 use lib.ListN.{length, getD, take, drop, set, length-append}
 use lib.Seq.{paste, take-at, drop-at, take-all, take-append-add, drop-append-add}
 use Rattle.model.specs.Lists.{joined, part, row}
+use Rattle.model.specs.Matrix.{Matrix, mul}
 use Rattle.model.specs.Agree.{Each}
+use Rattle.model.proofs.ListLaws.{length-tabulate}
 
 -- the rows as they lie
 abbrev pub flat : {A : Type 0} → List (List A) → List A
@@ -15,6 +17,11 @@ flat l = joined (λ r. r) l
 
 abbrev pub Rows : {A : Type 0} → ℕ → List (List A) → Type 0
 Rows w l = Each (λ r. length r ≡ w) l
+
+-- a product of matrices is such a row
+pub product-length : (a b : Matrix) → length (mul a b) ≡ 16
+unfolding mul
+product-length a b = length-tabulate 16 _
 
 next : (w i : ℕ) → suc i * w ≡ w + i * w
 next w i = omega (arith, suc-mul i w)

@@ -14,6 +14,7 @@ use Rattle.model.specs.Matrix.{Matrix}
 use Rattle.model.specs.Scene.{Node, blank, nodeCount, nodeAt}
 use Rattle.model.specs.SkinCalls.{skinPalette, nodePalette, paletteNumber}
 use Rattle.model.specs.Refusals.{firstOf, lowest}
+use Rattle.model.proofs.Numbers.{lowest-some}
 use Rattle.tables.specs.declared.NodeRow.{NodeRow}
 use Rattle.tables.specs.Records.{nodeRow}
 use Rattle.tables.specs.Decoded.{Lent, nodeOf, sceneOf}
@@ -25,7 +26,6 @@ use Rattle.skin.specs.declared.Answer.{Answer}
 use Rattle.skin.specs.Palette.{laidOut}
 use Rattle.skin.specs.Calls.{paletteAt, Judged, Answered}
 use Rattle.skin.proofs.Rows.{laid}
-use Rattle.skin.proofs.Numbers.{lowest-some}
 
 -- ---- the skin of a node
 module _ (l : Lent) (i : ℕ) (world : ℕ → Option Matrix) where

@@ -14,6 +14,7 @@ use Rattle.model.specs.Scene.{Node, Mesh, blank, nodeAt, meshAt}
 use Rattle.model.specs.Skin.{effectiveWeights}
 use Rattle.model.specs.SkinCalls.{weightsNumber, weightsOr, weightsOf}
 use Rattle.model.specs.Refusals.{noSuchNode, firstOf, lowest}
+use Rattle.model.proofs.Numbers.{lowest-some}
 use Rattle.tables.specs.declared.NodeRow.{NodeRow}
 use Rattle.tables.specs.Records.{nodeRow, meshRow}
 use Rattle.tables.specs.Tags.{isMarked}
@@ -21,7 +22,6 @@ use Rattle.tables.specs.Decoded.{Lent, nodeOf, meshOf, sceneOf}
 use Rattle.tables.proofs.Decoding.{node-count, node-at, mesh-at, no-mesh}
 use Rattle.tables.proofs.Naming.{is-there, not-there}
 use Rattle.checks.specs.Drawn.{tablesNumber}
-use Rattle.skin.proofs.Numbers.{lowest-some}
 
 -- ---- own weights before the mesh's
 module _ (mark : ℕ) (own : List Float) (mesh : Mesh) where

@@ -4,7 +4,6 @@ pub mod Blending
 pub mod Every
 pub mod Leads
 pub mod Marked
-pub mod Numbers
 pub mod Palettes
 pub mod Rooting
 pub mod Rows

@@ -15,6 +15,7 @@ use Rattle.model.specs.Parents.{marksOf}
 use Rattle.model.specs.Skin.{commonRoot, skinRoot}
 use Rattle.model.specs.SkinCalls.{skinRootNumber}
 use Rattle.model.specs.Refusals.{noCommonRoot, shortOutput, firstOf, lowest}
+use Rattle.model.proofs.Numbers.{lowest-some}
 use Rattle.tables.specs.declared.SkinRow.{SkinRow}
 use Rattle.tables.specs.declared.SkeletonRow.{SkeletonRow}
 use Rattle.tables.specs.Records.{skinRow, skeletonRow}
@@ -28,7 +29,6 @@ use Rattle.graph.specs.Marks.{parentsNumber, Parents}
 use Rattle.skin.specs.Lines.{Inside}
 use Rattle.skin.specs.Roots.{RootAnswered}
 use Rattle.skin.proofs.Marked.{codes-length, codes-inside}
-use Rattle.skin.proofs.Numbers.{lowest-some}
 
 -- ---- by what the ids name
 module _ (s : scene.Scene) (k : ℕ) where

@@ -12,7 +12,7 @@ use lib.Seq.{paste, take-suc, take-at, take-all, length-take-le, drop-append-add
 use Rattle.model.specs.Lists.{pick, tabulate, joined}
 use Rattle.model.specs.Matrix.{Matrix, mul}
 use Rattle.model.proofs.ListLaws.{length-tabulate, getD-tabulate}
-use Rattle.model.proofs.RowLaws.{flat, Rows, flat-length}
+use Rattle.model.proofs.RowLaws.{flat, Rows, flat-length, product-length}
 use Rattle.scene.specs.Slots.{matrixIn, fitsAt}
 use Rattle.skin.specs.Palette.{bindIn, paletteIn, laidOut}
 
@@ -95,10 +95,6 @@ rows-of : (n : ℕ) (f : ℕ → Matrix) → ((t : ℕ) → length (f t) ≡ 16)
 unfolding tabulate
 rows-of zero f h = tt
 rows-of (suc n) f h = (h 0, rows-of n (λ t. f (suc t)) (λ t. h (suc t)))
-
-product-length : (a b : Matrix) → length (mul a b) ≡ 16
-unfolding mul
-product-length a b = length-tabulate 16 _
 
 module _ (js : List ℕ) (binds worlds : List Float) where
   pub palette-rows : Rows 16 (paletteIn js binds worlds)

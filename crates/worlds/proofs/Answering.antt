@@ -10,15 +10,12 @@ use Rattle.model.specs.Lists.{pick}
 use Rattle.model.specs.Scene.{nodeCount}
 use Rattle.model.specs.Placing.{childEntries}
 use Rattle.model.specs.Refusals.{shortScratch, firstOf, lowest, Scratch, scratchIsShort, placeNumber}
+use Rattle.model.proofs.Numbers.{lowest-some}
 use Rattle.tables.specs.Decoded.{Lent, sceneOf}
 use Rattle.tables.proofs.Decoding.{node-count}
 use Rattle.checks.specs.Drawn.{tablesNumber, sumBelow, childCount}
 use Rattle.checks.proofs.Clearing.{checked}
 use Rattle.worlds.specs.Rooms.{shortIn}
-
-lowest-some : (g n : ℕ) → (g ≡ 0 → ⊥) → g ≡ lowest g n
-lowest-some zero n d = absurd (d refl)
-lowest-some (suc g) n d = refl
 
 module _ (l : Lent) (room : Scratch) where
   pub drawn-first : (r : ℕ) → r ≡ tablesNumber l → (r ≡ 0 → ⊥) → r ≡ placeNumber (tablesNumber l) (sceneOf l) room

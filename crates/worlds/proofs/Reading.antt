@@ -19,14 +19,14 @@ use Rattle.model.specs.Scene.{Scene, nodeCount}
 use Rattle.model.specs.Placing.{Place, unplaced, root, below, Entry, isFree, order, placesFrom, places, start}
 use Rattle.model.specs.Pose.{Pose}
 use Rattle.model.specs.World.{localAt, above, placeOne, worldsFrom, worlds, worldAt}
-use Rattle.model.proofs.RowLaws.{Rows, flat-length, row-of-flat}
+use Rattle.model.proofs.RowLaws.{Rows, flat-length, row-of-flat, product-length}
 use Rattle.model.proofs.Walking.{InTurn, in-turn, not-free}
 use Rattle.model.proofs.Paths.{free-in-range, replicate-at}
 use Rattle.scene.specs.Slots.{matrixIn, fitsAt}
 use Rattle.tables.specs.Tags.{isMarked}
 use Rattle.tables.specs.Codes.{codeOf, codesOf}
 use Rattle.worlds.specs.Slots.{slotOf, slotsOf, worldIn}
-use Rattle.worlds.proofs.Stepping.{product-length, rows-set, rows-zero, getD-map}
+use Rattle.worlds.proofs.Stepping.{rows-set, rows-zero, getD-map}
 use Rattle.worlds.proofs.Filled.{places-length}
 
 -- places and worlds of the same nodes: those that are placed have a world, of sixteen numbers

@@ -17,8 +17,7 @@ use Rattle.model.specs.Matrix.{Matrix, identity, mul}
 use Rattle.model.specs.Placing.{Place, unplaced, root, below, Entry, isFree, free}
 use Rattle.model.specs.World.{above, placeOne, worldsFrom}
 use Rattle.model.specs.Agree.{Each}
-use Rattle.model.proofs.ListLaws.{length-tabulate}
-use Rattle.model.proofs.RowLaws.{flat, Rows, flat-length, row-of-flat, set-row}
+use Rattle.model.proofs.RowLaws.{flat, Rows, flat-length, row-of-flat, set-row, product-length}
 use Rattle.model.proofs.Walking.{Stands, InTurn}
 use Rattle.model.proofs.Paths.{free-in-range}
 use Rattle.scene.specs.Slots.{matrixIn, fitsAt}
@@ -37,10 +36,6 @@ getD-map f (y ∷ l) zero d e h = refl
 getD-map f (y ∷ l) (suc i) d e h = getD-map f l i d e (omega arith)
 
 -- ---- slots of sixteen numbers
-pub product-length : (a b : Matrix) → length (mul a b) ≡ 16
-unfolding mul
-product-length a b = length-tabulate 16 _
-
 pub rows-set : (ws : List (Option Matrix)) (i : ℕ) (m : Matrix) → length m ≡ 16 → Rows 16 (map slotOf ws) → Rows 16 (map slotOf (set ws i (some m)))
 rows-set [] i m e h = tt
 rows-set (w ∷ ws) zero m e h = (e, h .1)

@@ -139,11 +139,13 @@ pub fn compare_nan() -> bool {
     const NANS: [u32; 5] = [0x7fc0_0000, 0xffc0_0000, 0x7f80_0001, 0xff80_0001, !0];
     let nans = NANS.map(f32::from_bits);
     let all = [&PLAIN[..], &nans].concat();
-    let pairs: Vec<(f32, f32)> = nans
-        .iter()
-        .flat_map(|nan| all.iter().flat_map(|x| [(*nan, *x), (*x, *nan)]))
-        .collect();
-    let (vs, cs): (Vec<f32>, Vec<f32>) = pairs.into_iter().unzip();
+    let (mut vs, mut cs) = (Vec::new(), Vec::new());
+    for nan in nans {
+        for x in &all {
+            vs.extend([nan, *x]);
+            cs.extend([*x, nan]);
+        }
+    }
     let mut found = vec![0.0; vs.len()];
     port::turn_weight_all(&vs, &cs, &mut found);
     let mut tally = Tally::new();

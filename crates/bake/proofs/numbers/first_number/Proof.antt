@@ -8,7 +8,7 @@ use Rattle.model.specs.Scene.{meshAt}
 use Rattle.model.specs.Refusals.{lowest}
 use Rattle.tables.specs.Decoded.{sceneOf}
 use Rattle.checks.specs.Drawn.{lentAs}
-use Rattle.bake.proofs.Drawing.{first-early}
+use Rattle.model.proofs.Numbers.{lowest-some}
 use Rattle.bake.proofs.numbers.first_number.Statement.{statement}
 use Rattle.bake.proofs.numbers.first_number.Tie as tie
 
@@ -17,7 +17,7 @@ returns c =
     let a = c .before .before .before .before .before .before .args in
     let s = sceneOf (lentAs (now (a .words)) (now (a .floats)) (now (a .node-weights)) (now (a .mesh-weights)) (a .h)) in
     let n : ℕ = pick (isSome (meshAt s (a .node))) 0 7 in
-    first-early _ n (c .if1 .taken) ∙ ap (λ (g : ℕ). lowest g n) (c .before .early-number .ensures)
+    lowest-some _ n (c .if1 .taken) ∙ ap (λ (g : ℕ). lowest g n) (c .before .early-number .ensures)
 
 returns-2 : tie.Need-returns-2
 returns-2 c =
