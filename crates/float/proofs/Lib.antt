@@ -9,3 +9,5 @@ pub mod Examples
 pub mod Near
 pub mod RootNear
 pub mod Quick
+pub mod Normals
+pub mod Lanes

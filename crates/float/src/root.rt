@@ -129,7 +129,7 @@ fn near(a: u64) -> u64
 }
 
 // The significand of a normal f32, moved up so that its root's whole part has 24 digits.
-fn number(a: u64) -> u64
+pub(crate) fn number(a: u64) -> u64
     ensures { λ r. ⌜ (r ≡ numberOf a) × (r ≤ 2 ^ 48) ⌝ }
 {
     ((a & 0x7f_ffff) + 0x80_0000) * (0x100_0000 - ((a >> 23) & 1) * 0x80_0000)

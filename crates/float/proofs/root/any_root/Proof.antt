@@ -1,16 +1,16 @@
 -- `float::root::any_root` meets its contract. Assumes nothing.
 use mathlib.Core.Path.{_≡_, refl, sym, ap, _∙_, subst}
 use Prim.Native.Nat.{ℕ, _+_, _*_, _%_, _^_, _≤_, _<_}
-use native.Mathlib.Nat.{le-of-lt, mod-eq-of-lt, lt-of-le-of-lt}
+use native.Mathlib.Nat.{le-of-lt}
 use native.Mathlib.Omega.{arith}
 use mathlib.Core.Bool.{not}
 use borrow.Author.Needs.{needs}
-use lib.Dec.{T, lit<}
+use lib.Dec.{T}
 use lib.Ieee.{Float, nan, binary32, fits, toBits, ofBits}
 use lib.Ieee.Bits.{ofBits-toBits, toBits-lt}
 use Rattle.float.specs.Sqrt.{sqrtOf}
 use Rattle.float.proofs.Classes.{is-nan, no-nan, made-nan}
-use Rattle.float.proofs.Signs.{mag-le, pattern-ok}
+use Rattle.float.proofs.Signs.{mag-le, number-ok}
 use Rattle.float.proofs.Rooting.{nan-root, zero-root, own-root, no-root}
 use Rattle.float.proofs.root.any_root.Statement.{statement}
 use Rattle.float.proofs.root.any_root.Tie as tie
@@ -44,7 +44,7 @@ cast-result : tie.Need-cast-result
 cast-result c = search needs
 
 float-from-bits-result : tie.Need-float-from-bits-result
-float-from-bits-result c = pattern-ok (c .sqrt-bits .result) (c .sqrt-bits .result) (mod-eq-of-lt (lt-of-le-of-lt (c .sqrt-bits .ensures .0) (lit< tt))) (c .sqrt-bits .ensures .0)
+float-from-bits-result c = number-ok (c .sqrt-bits .result) (le-of-lt (c .sqrt-bits .ensures .0))
 
 returns-3 : tie.Need-returns-3
 returns-3 c = c .sqrt-bits .ensures .1 ∙ ap (sqrtOf binary32) (bits (c .before .before .before .before))

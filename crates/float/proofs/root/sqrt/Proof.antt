@@ -1,16 +1,16 @@
 -- `float::root::sqrt` meets its contract. Assumes nothing.
 use mathlib.Core.Path.{_≡_, refl, sym, ap, _∙_, subst}
 use Prim.Native.Nat.{ℕ, _+_, _*_, _/_, _%_, _^_, _≤_, _<_}
-use native.Mathlib.Nat.{mod-eq-of-lt, lt-of-le-of-lt, mul-le-mul, le-of-lt}
+use native.Mathlib.Nat.{mul-le-mul, le-of-lt}
 use native.Mathlib.Omega.{arith}
 use borrow.Author.Needs.{needs}
-use lib.Dec.{T, lit<}
+use lib.Dec.{T}
 use lib.Ieee.{Float, nan, binary32, fits, toBits, ofBits}
 use lib.Ieee.Bits.{ofBits-toBits}
 use Rattle.float.specs.Sqrt.{sqrtOf}
 use Rattle.float.specs.Patterns.{Rooted}
 use Rattle.float.proofs.Classes.{is-nan, no-nan}
-use Rattle.float.proofs.Signs.{pattern-ok}
+use Rattle.float.proofs.Signs.{number-ok}
 use Rattle.float.proofs.Rooting.{nan-root}
 use Rattle.float.proofs.Quick.{quick}
 use Rattle.float.proofs.root.sqrt.Statement.{statement}
@@ -68,9 +68,7 @@ rooted c =
     (subst (λ (n : ℕ). n ≤ q * q + q) (m .number .ensures .0) (c .if5 .taken))
 
 float-from-bits-result : tie.Need-float-from-bits-result
-float-from-bits-result c =
-    let r = (toBits binary32 (c .before .before .before .before .before .before .before .args .x) + 1048576000) / 2 ^ 24 * 2 ^ 23 + c .before .before .before .near .result in
-    pattern-ok r r (mod-eq-of-lt (lt-of-le-of-lt (rooted c .0) (lit< tt))) (rooted c .0)
+float-from-bits-result c = number-ok _ (le-of-lt (rooted c .0))
 
 returns-2 : tie.Need-returns-2
 returns-2 c = rooted c .1 ∙ ap (sqrtOf binary32) (bits (c .before .before .before .before .before .before .before))
