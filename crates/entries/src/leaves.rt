@@ -1,8 +1,10 @@
 // The numeric leaves over whole slices. Each writes as many results as there are inputs and room for them, and answers
-// how many; past these `out` stays as lent.
+// how many; past these `out` stays as lent. Then the roots of a block of sixteen.
+ghost use mathlib.Core.Path.{_≡_};
 ghost use mathlib.Core.List.{map, zipWith};
 ghost use lib.Ieee.{binary32};
 ghost use Rattle.float.specs.Narrow.{narrowOf};
+ghost use Rattle.float.specs.Normal.{allNormal};
 ghost use Rattle.float.specs.Sqrt.{sqrtOf};
 ghost use Rattle.turn.specs.Weight.{weight};
 ghost use Rattle.model.specs.Written.{Wrote};
@@ -47,4 +49,16 @@ pub extern "C" fn turn_weight_all(vs: &[f32], cs: &[f32], out: &mut [f32]) -> us
         i += 1;
     }
     n
+}
+
+// The root of each x, and whether all are normal.
+#[no_mangle]
+pub extern "C" fn sqrt_block(xs: &[f32; 16], out: &mut [f32; 16]) -> bool
+    ensures { λ r. ⌜ (now (out .exit) ≡ map (sqrtOf binary32) (now (xs .entry))) × (r ≡ allNormal (now (xs .entry))) ⌝ }
+{
+    let of = *xs;
+    let r = float::sqrt_block(float::Block { of });
+    let s = r.of;
+    *out = s;
+    r.normal
 }

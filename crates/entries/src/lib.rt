@@ -9,6 +9,7 @@ pub use inverses::scene_mat4_affine_inverse;
 pub use inverses::scene_normal_matrix;
 pub use leaves::narrow_all;
 pub use leaves::sqrt_all;
+pub use leaves::sqrt_block;
 pub use leaves::turn_weight_all;
 pub use lent::parents;
 pub use lent::place_floats;
