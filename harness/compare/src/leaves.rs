@@ -1,5 +1,6 @@
 //! The numeric leaves: roots, narrowing and turn weights.
 
+mod blocks;
 mod lengths;
 pub mod narrowing;
 pub mod roots;
@@ -10,6 +11,7 @@ pub mod turns;
 pub fn compare() -> bool {
     let equal = [
         roots::compare(),
+        blocks::compare(),
         narrowing::compare(),
         turns::compare(),
         turns::compare_nan(),

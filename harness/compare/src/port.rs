@@ -17,6 +17,9 @@ pub use vertices::*;
 
 pub mod scene;
 
+/// The numbers whose roots are taken together.
+pub type Block = [f32; 16];
+
 /// Row by row.
 pub type Mat4 = [[f32; 4]; 4];
 pub type Mat3 = [[f32; 3]; 3];
@@ -33,6 +36,7 @@ mod foreign {
 
     extern "C" {
         pub fn sqrt_all(xs: *const f32, xs_len: usize, out: *mut f32, out_len: usize) -> usize;
+        pub fn sqrt_block(xs: *const super::Block, out: *mut super::Block) -> bool;
         pub fn narrow_all(xs: *const f64, xs_len: usize, out: *mut f32, out_len: usize) -> usize;
         pub fn turn_weight_all(
             vs: *const f32,
@@ -109,6 +113,12 @@ mod foreign {
 pub fn sqrt_all(xs: &[f32], out: &mut [f32]) -> usize {
     // SAFETY: see above.
     unsafe { foreign::sqrt_all(xs.as_ptr(), xs.len(), out.as_mut_ptr(), out.len()) }
+}
+
+/// Fills the whole of `out`, and says whether all of `xs` are normal.
+pub fn sqrt_block(xs: &Block, out: &mut Block) -> bool {
+    // SAFETY: both are read or written over this length alone.
+    unsafe { foreign::sqrt_block(xs, out) }
 }
 
 pub fn narrow_all(xs: &[f64], out: &mut [f32]) -> usize {

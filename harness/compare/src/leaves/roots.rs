@@ -43,7 +43,7 @@ fn check(tally: &mut Tally<u32>, patterns: impl Iterator<Item = u32>) {
 
 /// A spread over all patterns, every exponent with both signs among them, and
 /// the places where a root goes wrong most easily.
-fn gate_patterns() -> impl Iterator<Item = u32> {
+pub fn gate_patterns() -> impl Iterator<Item = u32> {
     let spread = (0..1u32 << 24).map(|k| k.wrapping_mul(257));
     EDGES
         .into_iter()

@@ -19,6 +19,7 @@ pub fn measure() {
         &subnormals,
         roots_one_by_one,
     );
+    measure_blocks(&normals);
     measure_narrowings(&mut rng);
     measure_turn_weights(&mut rng);
 }
@@ -39,6 +40,18 @@ fn measure_roots(name: &str, xs: &[f32], rust: fn(&[f32], &mut [f32])) {
         port::sqrt_all(xs, out);
     };
     fill(name, port, |out| rust(xs, out));
+}
+
+fn measure_blocks(xs: &[f32]) {
+    let (xs, _) = xs.as_chunks();
+    let port = |out: &mut [f32]| {
+        for (xs, out) in xs.iter().zip(out.as_chunks_mut().0) {
+            port::sqrt_block(xs, out);
+        }
+    };
+    fill("roots of blocks, Rust in lanes", port, |out| {
+        roots(xs.as_flattened(), out)
+    });
 }
 
 fn measure_narrowings(rng: &mut Rng) {
