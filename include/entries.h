@@ -5,6 +5,7 @@
 #ifndef ENTRIES_H
 #define ENTRIES_H
 
+#include <stdbool.h>
 #include <stddef.h>
 #include <stdint.h>
 
@@ -12,6 +13,8 @@
 size_t sqrt_all(const float *xs, size_t xs_len, float *out, size_t out_len);
 size_t narrow_all(const double *xs, size_t xs_len, float *out, size_t out_len);
 size_t turn_weight_all(const float *vs, size_t vs_len, const float *cs, size_t cs_len, float *out, size_t out_len);
+/* The roots of sixteen numbers; answers whether all are normal: at least 2^-126, the smallest normal float, and below 1e37. */
+bool sqrt_block(const float xs[16], float out[16]);
 
 /* Matrices are sixteen floats row by row, or nine; quaternions x, y, z, w. Where a number is answered it is 1 and `out`
    holds the result, or 0 and `out` is as lent. */
