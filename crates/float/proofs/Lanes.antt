@@ -1,18 +1,16 @@
 -- Loops over the numbers of a block: an array that is filled, tests that are joined by `|`, and a count. Assumes nothing.
 use mathlib.Core.Path.{_≡_, refl, sym, ap, _∙_, subst}
 use mathlib.Core.Bool.{Bool, true, false, _&&_}
-use mathlib.Core.List.{List, [], _∷_, map}
-use Prim.Native.Nat.{ℕ, zero, suc, _+_, _-_, _*_, _^_, _≤_, _<_}
-use native.Mathlib.Nat.{add-zero, le-of-suc-le-suc}
+use mathlib.Core.List.{List, map}
+use Prim.Native.Nat.{ℕ, _+_, _-_, _*_, _^_, _≤_, _<_}
+use native.Mathlib.Nat.{add-zero}
 use native.Mathlib.Numerals.{add-one}
 use native.Mathlib.Omega.{arith}
 use borrow.Author.Count.{below-more}
 use borrow.Author.Tests.{ne-eqb}
 use lib.Bits.{bitOr, or-add-and, and-le-l, and-le-r}
-use lib.Dec.{T, eqb}
+use lib.Dec.{eqb}
 use lib.Ieee.{Float, nan, binary32}
-use lib.Ieee.Bits.{is-true}
-use lib.Ieee.Fits.{and-l, and-r}
 use lib.ListN.{length, getD, set, drop, drop-of-length-le, length-set, length-map, List·getD-map}
 use lib.Seq.{getD-set-same, getD-set-other, drop-cons, ext-getD}
 use Rattle.float.specs.Sqrt.{sqrtOf}
@@ -52,8 +50,8 @@ or-left a b = omega (arith, or-add-and a b, and-le-r a b)
 pub or-right : (a b : ℕ) → b ≤ bitOr a b
 or-right a b = omega (arith, or-add-and a b, and-le-l a b)
 
-pub within : (a q : ℕ) → numberOf a ≤ 2 ^ 48 → q < 2 ^ 24 → bitOr (q * q + 2 ^ 50 - numberOf a - q) (2 ^ 51 - 1 - (q * q + 2 ^ 50 - numberOf a + q)) < 2 ^ 50 → Near a q
-within a q h g t = by (numberOf a) (q * q) h t
+pub within : (a q : ℕ) → numberOf a ≤ 2 ^ 48 → bitOr (q * q + 2 ^ 50 - numberOf a - q) (2 ^ 51 - 1 - (q * q + 2 ^ 50 - numberOf a + q)) < 2 ^ 50 → Near a q
+within a q h t = by (numberOf a) (q * q) h t
   where
     by : (n s : ℕ) → n ≤ 2 ^ 48 → bitOr (s + 2 ^ 50 - n - q) (2 ^ 51 - 1 - (s + 2 ^ 50 - n + q)) < 2 ^ 50 → (s < n + q) × (n ≤ s + q)
     by n s h t =
@@ -92,12 +90,3 @@ module _ (l : List Float) (n i : ℕ) (h : eqb n 0 && allNormal (drop i l) ≡ a
   pub count-done : length l ≤ i → eqb n 0 ≡ allNormal l
   unfolding allNormal
   count-done g = sym (ap (λ (r : List Float). eqb n 0 && allNormal r) (drop-of-length-le l g) ∙ and-true (eqb n 0)) ∙ h
-
-pub each-normal : (l : List Float) → allNormal l ≡ true → (i : ℕ) → i < length l → isNormal (getD l i nan) ≡ true
-unfolding allNormal
-each-normal [] h i g = absurd (none i g)
-  where
-    none : (i : ℕ) → i < 0 → ⊥
-    none i g = omega arith
-each-normal (x ∷ l) h zero g = is-true (isNormal x) (and-l (isNormal x) (allNormal l) (subst T (sym h) tt))
-each-normal (x ∷ l) h (suc i) g = each-normal l (is-true (allNormal l) (and-r (isNormal x) (allNormal l) (subst T (sym h) tt))) i (le-of-suc-le-suc g)

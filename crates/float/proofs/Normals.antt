@@ -1,8 +1,9 @@
 -- The normal numbers below 10 ^ 37: their bit patterns, and that their roots are finite and above 0. Assumes nothing.
 use mathlib.Core.Path.{_≡_, refl, sym, ap, _∙_, subst}
 use mathlib.Core.Bool.{Bool, true, false, not, _||_, true≢false}
+use mathlib.Core.List.{List, [], _∷_}
 use Prim.Native.Nat.{ℕ, zero, suc, _+_, _-_, _*_, _/_, _%_, _^_, _≤_, _<_}
-use native.Mathlib.Nat.{le-trans, le-of-eq, lt-of-le-of-lt, zero-mul, mul-left-comm, mul-right-comm, mul-one, mul-le-mul-left, mul-le-mul-right, mul-lt-mul-of-pos-right, mul-pos, le-div-iff-mul-le, div-lt-iff-lt-mul, div-one}
+use native.Mathlib.Nat.{le-of-suc-le-suc, le-trans, le-of-eq, lt-of-le-of-lt, zero-mul, mul-left-comm, mul-right-comm, mul-one, mul-le-mul-left, mul-le-mul-right, mul-lt-mul-of-pos-right, mul-pos, le-div-iff-mul-le, div-lt-iff-lt-mul, div-one}
 use native.Mathlib.Omega.{arith}
 use borrow.Author.Tests.{lt-ltb}
 use lib.Dec.{T, ltb→lt, lit<, lit≤}
@@ -13,11 +14,13 @@ use lib.Ieee.Digits.{size-le}
 use lib.Ieee.Fits.{and-l, and-r, up-pos, down-pos, kept-lt}
 use lib.Ieee.Scale.{finite}
 use lib.Ieee.Positive.{positive, num, den, between, le→cross, positive-of-value}
+use lib.ListN.{length, getD}
 use Rattle.float.specs.F32.{zero32}
 use Rattle.float.specs.Sqrt.{sqrtOf}
 use Rattle.float.specs.Patterns.{rootPattern, Rooted}
 use Rattle.float.proofs.Rooting.{pattern-value, at-normal}
-use Rattle.float.specs.Normal.{smallestNormal, tenTo37, isNormal}
+use Rattle.float.proofs.Quick.{no-subnormal}
+use Rattle.float.specs.Normal.{smallestNormal, tenTo37, isNormal, allNormal}
 
 -- ---- the two ends
 small-positive : T (positive smallestNormal)
@@ -115,13 +118,10 @@ below-not-nan (fin s m d) y e = tt
 -- ---- its root
 pattern-positive : (a : ℕ) → 2 ^ 23 ≤ a → a < 255 * 2 ^ 23 → T (positive (ofBits binary32 a))
 pattern-positive a lo hi =
-    positive-of-value (ofBits binary32 a) ((2 ^ 23 + a % 2 ^ 23) * 2 ^ (a / 2 ^ 23 - 1)) (2 ^ 149) (pattern-value a (field a lo) hi) (mul-pos (some a) (pow-pos (a / 2 ^ 23 - 1)))
+    positive-of-value (ofBits binary32 a) ((2 ^ 23 + a % 2 ^ 23) * 2 ^ (a / 2 ^ 23 - 1)) (2 ^ 149) (pattern-value a (no-subnormal a lo) hi) (mul-pos (some a) (pow-pos (a / 2 ^ 23 - 1)))
   where
     some : (a : ℕ) → 0 < 2 ^ 23 + a % 2 ^ 23
     some a = omega arith
-
-    field : (a : ℕ) → 2 ^ 23 ≤ a → a / 2 ^ 23 ≡ 0 → ⊥
-    field a l e = omega arith
 
 root-from : (m f : ℕ) → 126 ≤ f → 2 ^ 23 ≤ rootPattern m f
 unfolding rootPattern
@@ -132,11 +132,8 @@ root-from m f h = more (f / 2) _ (omega arith)
 
 root-positive : (a : ℕ) → 2 ^ 23 ≤ a → a < 255 * 2 ^ 23 → T (positive (sqrtOf binary32 (ofBits binary32 a)))
 root-positive a lo hi =
-    let r : Rooted a (rootPattern (a % 2 ^ 23 + 2 ^ 23) (a / 2 ^ 23 + 125)) = at-normal a (field a lo) hi in
+    let r : Rooted a (rootPattern (a % 2 ^ 23 + 2 ^ 23) (a / 2 ^ 23 + 125)) = at-normal a (no-subnormal a lo) hi in
     subst (λ (y : Float). T (positive y)) (r .1) (pattern-positive (rootPattern (a % 2 ^ 23 + 2 ^ 23) (a / 2 ^ 23 + 125)) (root-from (a % 2 ^ 23 + 2 ^ 23) (a / 2 ^ 23 + 125) (omega arith)) (r .0))
-  where
-    field : (a : ℕ) → 2 ^ 23 ≤ a → a / 2 ^ 23 ≡ 0 → ⊥
-    field a l e = omega arith
 
 above-zero : (x : Float) → T (positive x) → (finite x ≡ true) × (lt zero32 x ≡ true)
 unfolding lt ofBits
@@ -149,3 +146,13 @@ pub normal-root : (x : Float) → T (fits binary32 x) → isNormal x ≡ true �
 normal-root x f h =
     let b = normal-bits x h in
     above-zero (sqrtOf binary32 x) (subst (λ (y : Float). T (positive (sqrtOf binary32 y))) (ofBits-toBits binary32 x f) (root-positive (toBits binary32 x) (b .0) (b .1)))
+
+-- ---- the numbers of a block
+pub each-normal : (l : List Float) → allNormal l ≡ true → (i : ℕ) → i < length l → isNormal (getD l i nan) ≡ true
+unfolding allNormal
+each-normal [] h i g = absurd (none i g)
+  where
+    none : (i : ℕ) → i < 0 → ⊥
+    none i g = omega arith
+each-normal (x ∷ l) h zero g = is-true (isNormal x) (and-l (isNormal x) (allNormal l) (subst T (sym h) tt))
+each-normal (x ∷ l) h (suc i) g = each-normal l (is-true (allNormal l) (and-r (isNormal x) (allNormal l) (subst T (sym h) tt))) i (le-of-suc-le-suc g)

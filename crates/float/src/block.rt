@@ -49,13 +49,14 @@ fn high(s: f32) -> f32
     f32::from_bits(b & 0x7fff_f000)
 }
 
-// y less the square of s, with little lost.
+// y less the square of s. h and l have 12 digits each, so the three products are exact: next to a power of 4, where the root is
+// close to the middle of two floats, less would not do.
 fn rest(y: f32, s: f32) -> f32
     requires { ⌜ T (not (isNan s)) ⌝ }
 {
     let h = high(s);
     let l = s - h;
-    (y - h * h) - l * (h + s)
+    ((y - h * h) - (h + h) * l) - l * l
 }
 
 // The significand of a guess at the root of x: a polynomial, then a step of Newton's. Nothing is promised of it but that it is
@@ -86,7 +87,8 @@ fn guesses(a: [f32; 16]) -> [u32; 16]
     q
 }
 
-// From 2^50 up where q is not within a half of the root of x's significand.
+// Below 2^50 only where q is within a half of the root of x's significand, for an x below 10^37: e - p is below it where
+// p * p < n + p, and the other number where n <= p * p + p.
 fn off(x: f32, q: u32) -> u64
     requires { ⌜ q < 2 ^ 24 ⌝ }
     ensures { λ r. ⌜ (r < 2 ^ 50 → lt x tenTo37 ≡ true → Near (toBits binary32 x) q) ⌝ }
@@ -98,7 +100,7 @@ fn off(x: f32, q: u32) -> u64
     (e - p) | (0x7_ffff_ffff_ffff - (e + p))
 }
 
-// From 2^50 up where one of the guesses is off.
+// Below 2^50 only where that holds of every guess.
 fn all_off(a: [f32; 16], q: [u32; 16]) -> u64
     requires { ⌜ ((i : ℕ) → i < 16 → getD q i 0 < 2 ^ 24) ⌝ }
     ensures { λ r. ⌜ (r < 2 ^ 50 → (i : ℕ) → i < 16 → lt (getD a i nan) tenTo37 ≡ true → Near (toBits binary32 (getD a i nan)) (getD q i 0)) ⌝ }

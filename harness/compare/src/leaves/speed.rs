@@ -19,7 +19,11 @@ pub fn measure() {
         &subnormals,
         roots_one_by_one,
     );
-    measure_blocks(&normals);
+    let ones: Vec<f32> = (0..COUNT)
+        .map(|_| f32::from_bits(1f32.to_bits() - 8 + rng.below(17)))
+        .collect();
+    measure_blocks("roots of blocks, Rust in lanes", &normals);
+    measure_blocks("roots of blocks near 1", &ones);
     measure_narrowings(&mut rng);
     measure_turn_weights(&mut rng);
 }
@@ -42,16 +46,14 @@ fn measure_roots(name: &str, xs: &[f32], rust: fn(&[f32], &mut [f32])) {
     fill(name, port, |out| rust(xs, out));
 }
 
-fn measure_blocks(xs: &[f32]) {
+fn measure_blocks(name: &str, xs: &[f32]) {
     let (xs, _) = xs.as_chunks();
     let port = |out: &mut [f32]| {
         for (xs, out) in xs.iter().zip(out.as_chunks_mut().0) {
             port::sqrt_block(xs, out);
         }
     };
-    fill("roots of blocks, Rust in lanes", port, |out| {
-        roots(xs.as_flattened(), out)
-    });
+    fill(name, port, |out| roots(xs.as_flattened(), out));
 }
 
 fn measure_narrowings(rng: &mut Rng) {

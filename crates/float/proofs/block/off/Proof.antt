@@ -33,12 +33,11 @@ sub-result-2 c = omega (arith, square c)
 
 returns : tie.Need-returns
 returns c t l =
-    let s = c .before .before in
-    let q = s .args .q in
+    let q = c .before .before .args .q in
     let e = c .number .ensures .0 in
     let a = toBits binary32 (c .before .below .result) in
     subst (λ (y : Float). Near (toBits binary32 y) q) (c .before .below .ensures .1 l)
-    (within a q (subst (λ (n : ℕ). n ≤ 2 ^ 48) e (c .number .ensures .1)) (s .pre)
+    (within a q (subst (λ (n : ℕ). n ≤ 2 ^ 48) e (c .number .ensures .1))
     (subst (λ (n : ℕ). bitOr (q * q + 2 ^ 50 - n - q) (2 ^ 51 - 1 - (q * q + 2 ^ 50 - n + q)) < 2 ^ 50) e t))
 
 pub off-spec : {M : Type 1} → statement M

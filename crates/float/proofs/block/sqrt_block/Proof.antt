@@ -6,8 +6,7 @@ use lib.ListN.{length}
 use borrow.Author.Needs.{needs}
 use borrow.Author.Tests.{eq-eqb}
 use Rattle.float.specs.Normal.{allNormal}
-use Rattle.float.proofs.Normals.{under}
-use Rattle.float.proofs.Lanes.{each-normal}
+use Rattle.float.proofs.Normals.{under, each-normal}
 use Rattle.float.proofs.block.sqrt_block.Statement.{statement}
 use Rattle.float.proofs.block.sqrt_block.Tie as tie
 
