@@ -1,6 +1,7 @@
 // Runs the line of the scope's "From the blade bench" that has no star, on a scene that is lent in words (docs/TABLES.md).
 use animation::Part;
 use libc::STDOUT_FILENO;
+use lists::text;
 use skin::Root;
 use tables::Graph;
 use tables::Header;
@@ -52,10 +53,6 @@ fn header() -> Header {
             skeletons: part(59, 2),
         },
     }
-}
-
-fn text(bytes: &[u8]) {
-    io::write_all(STDOUT_FILENO, bytes);
 }
 
 fn print_root(root: Root) {

@@ -7,62 +7,17 @@ use animation::Kind;
 use animation::Part;
 use animation::SampledValue;
 use animation::Track;
-ghost use Prim.Native.Nat.{_<_};
 use libc::STDIN_FILENO;
-use libc::STDOUT_FILENO;
+use lists::TURN_GAP;
+use lists::Tally;
+use lists::is_near;
 
-struct Tally {
-    seen: u32,
-    differ: u32,
+fn field(line: &[u8; 369], k: usize) -> u32 {
+    lists::word(line, k % 41 * 9)
 }
 
-impl Tally {
-    // One answer more. The counts stay below 2^31, far above the length of any list.
-    fn with(self, same: bool) -> Self {
-        let seen = self.seen % 0x8000_0000 + 1;
-        let differ = self.differ % 0x8000_0000;
-        if same {
-            return Tally { seen, differ };
-        }
-        Tally {
-            seen,
-            differ: differ + 1,
-        }
-    }
-
-    fn print(self, what: &[u8]) {
-        io::write_all(STDOUT_FILENO, what);
-        io::write_all(STDOUT_FILENO, b": ");
-        io::print_decimal(STDOUT_FILENO, self.seen as u64);
-        io::write_all(STDOUT_FILENO, b" answers, ");
-        io::print_decimal(STDOUT_FILENO, self.differ as u64);
-        io::write_all(STDOUT_FILENO, b" differ\n");
-    }
-}
-
-fn digit(b: u8) -> u32
-    ensures { λ r. ⌜ r < 16 ⌝ }
-{
-    if b < b'a' {
-        return (b % 16) as u32;
-    }
-    ((b % 16 + 9) % 16) as u32
-}
-
-// The field that starts at byte `from`.
-fn field(line: &[u8; 369], from: usize) -> u32 {
-    let mut n: u32 = 0;
-    let mut i = 0;
-    while i < 8 {
-        let at = from % 361 + i;
-        n = n % 0x1000_0000 * 16 + digit(line[at]);
-        i += 1;
-    }
-    n
-}
-
-fn float_at(line: &[u8; 369], from: usize) -> f32 {
-    float::from_bits(field(line, from))
+fn float_at(line: &[u8; 369], k: usize) -> f32 {
+    float::from_bits(field(line, k))
 }
 
 // Keys and values.
@@ -70,7 +25,7 @@ fn table(line: &[u8; 369]) -> [f32; 30] {
     let mut floats = [0.0f32; 30];
     let mut i = 0;
     while i < 30 {
-        floats[i] = float_at(line, 99 + 9 * i);
+        floats[i] = float_at(line, 11 + i);
         i += 1;
     }
     floats
@@ -94,14 +49,14 @@ fn interpolation_of(n: u32) -> Interpolation {
 
 fn track(line: &[u8; 369]) -> Track {
     let kind = kind_of(field(line, 0));
-    let interpolation = interpolation_of(field(line, 9));
+    let interpolation = interpolation_of(field(line, 1));
     let keys = Part {
         at: 0,
-        count: field(line, 18) as usize,
+        count: field(line, 2) as usize,
     };
     let values = Part {
-        at: field(line, 18) as usize,
-        count: field(line, 27) as usize,
+        at: field(line, 2) as usize,
+        count: field(line, 3) as usize,
     };
     Track {
         kind,
@@ -123,12 +78,12 @@ struct Answer {
 
 fn expected(line: &[u8; 369]) -> Answer {
     Answer {
-        number: field(line, 45),
-        count: field(line, 54) as usize,
-        a: float_at(line, 63),
-        b: float_at(line, 72),
-        c: float_at(line, 81),
-        d: float_at(line, 90),
+        number: field(line, 5),
+        count: field(line, 6) as usize,
+        a: float_at(line, 7),
+        b: float_at(line, 8),
+        c: float_at(line, 9),
+        d: float_at(line, 10),
     }
 }
 
@@ -151,7 +106,7 @@ fn sampled(floats: &[f32; 30], t: Track, time: f32, out: &mut [f32; 4]) -> Sampl
 fn found(line: &[u8; 369]) -> Answer {
     let floats = table(line);
     let mut out = [0.0f32; 4];
-    match sampled(&floats, track(line), float_at(line, 36), &mut out) {
+    match sampled(&floats, track(line), float_at(line, 4), &mut out) {
         SampledValue::Vec3(v) => answered(0, 3, [v.x, v.y, v.z, 0.0]),
         SampledValue::Quat(q) => answered(0, 4, [q.x, q.y, q.z, q.w]),
         SampledValue::Scalar(n) => answered(0, n, out),
@@ -159,26 +114,17 @@ fn found(line: &[u8; 369]) -> Answer {
     }
 }
 
-// How far two numbers may lie apart.
-fn near(x: f32, y: f32, most: f64) -> bool {
-    if float::to_bits(x) == float::to_bits(y) {
-        return true;
-    }
-    let gap = float::widen(x) - float::widen(y);
-    -most <= gap && gap <= most && most > 0.0
-}
-
 fn same(x: Answer, y: Answer, most: f64) -> bool {
     let told = x.number == y.number && x.count == y.count;
-    let first = near(x.a, y.a, most) && near(x.b, y.b, most);
-    let last = near(x.c, y.c, most) && near(x.d, y.d, most);
+    let first = is_near(x.a, y.a, most) && is_near(x.b, y.b, most);
+    let last = is_near(x.c, y.c, most) && is_near(x.d, y.d, most);
     told && first && last
 }
 
-// 2^-19 for a Linear turn, and otherwise 0.
+// How far the numbers of a Linear turn may lie apart; others have equal bits.
 fn allowed(kind: u32, interpolation: u32) -> f64 {
     if kind == 1 && interpolation == 1 {
-        return 0.0000019073486328125;
+        return TURN_GAP;
     }
     0.0
 }
@@ -193,7 +139,7 @@ struct Report {
 
 impl Report {
     fn new() -> Self {
-        let none = Tally { seen: 0, differ: 0 };
+        let none = Tally::new();
         Report {
             vectors: none,
             turns: none,
@@ -204,9 +150,9 @@ impl Report {
 
     fn with(mut self, line: &[u8; 369]) -> Self {
         let kind = field(line, 0);
-        let most = allowed(kind, field(line, 9));
+        let most = allowed(kind, field(line, 1));
         let equal = same(expected(line), found(line), most);
-        if field(line, 45) != 0 {
+        if field(line, 5) != 0 {
             let tally = self.none;
             self.none = tally.with(equal);
         } else if kind == 0 {

@@ -1,6 +1,7 @@
+-- `lists::printing::print_places` is safe and ends. Assumes nothing.
 use borrow.Author.Needs.{needs}
-use Rattle.worked.proofs.print_places.Statement.{statement}
-use Rattle.worked.proofs.print_places.Tie as tie
+use Rattle.lists.proofs.printing.print_places.Statement.{statement}
+use Rattle.lists.proofs.printing.print_places.Tie as tie
 
 abbrev Inv-loop : tie.InvT-loop
 Inv-loop fraction unit₀ unit = Unit {0}

@@ -1,0 +1,26 @@
+-- `lists::comparing::is_near` meets its contract. Assumes nothing.
+use borrow.Author.Needs.{needs}
+use Rattle.lists.proofs.Nearness.{near-alike, near-below, not-near}
+use Rattle.lists.proofs.comparing.is_near.Statement.{statement}
+use Rattle.lists.proofs.comparing.is_near.Tie as tie
+
+returns : tie.Need-returns
+returns c = near-alike _ _ _ (cc)
+
+returns-2 : tie.Need-returns-2
+returns-2 c = near-below _ _ _ (λ e. c .before .before .before .if1 .left (cc)) _ (cc) (c .if2 .taken)
+
+returns-3 : tie.Need-returns-3
+returns-3 c = not-near _ _ _ (λ e. c .before .before .before .if1 .left (cc)) _ (cc) (c .if2 .left)
+
+pub is-near-spec : {M : Type 1} → statement M
+is-near-spec =
+    tie.close
+    (tie.spec
+    (λ c κs. search needs)
+    (λ c κs. search needs)
+    returns
+    (λ c κs. search needs)
+    (λ c κs. search needs)
+    returns-2
+    returns-3)

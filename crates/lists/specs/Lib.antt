@@ -1,0 +1,4 @@
+pub mod Digits
+pub mod Near
+pub mod Counts
+pub mod Tallies

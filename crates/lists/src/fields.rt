@@ -1,0 +1,33 @@
+// Numbers in hexadecimal digits.
+ghost use mathlib.Core.Path.{_≡_};
+ghost use Prim.Native.Nat.{_+_, _%_, _<_, _≤_};
+ghost use lib.ListN.{length};
+ghost use Rattle.lists.specs.Digits.{digitOf, spelled};
+
+fn digit(b: u8) -> u64
+    ensures { λ r. ⌜ (r ≡ digitOf b) × (r < 16) ⌝ }
+{
+    ((b % 16 + 9 * (b / 64)) % 16) as u64
+}
+
+// The number that so many digits spell, of more than sixteen the last sixteen.
+pub fn hexadecimal(text: &[u8], from: usize, count: usize) -> u64
+    requires { ⌜ from + count ≤ length (now text) ⌝ }
+    ensures { λ r. ⌜ r ≡ spelled (now (text .entry)) from count ⌝ }
+{
+    let mut n: u64 = 0;
+    let mut k = 0;
+    while k < count {
+        n = n % 0x1000_0000_0000_0000 * 16 + digit(text[from + k]);
+        k += 1;
+    }
+    n
+}
+
+// The number that eight digits spell.
+pub fn word(text: &[u8], from: usize) -> u32
+    requires { ⌜ from + 8 ≤ length (now text) ⌝ }
+    ensures { λ r. ⌜ r ≡ spelled (now (text .entry)) from 8 % 0x1_0000_0000 ⌝ }
+{
+    (hexadecimal(text, from, 8) % 0x1_0000_0000) as u32
+}
