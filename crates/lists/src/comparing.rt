@@ -48,11 +48,12 @@ impl Agreement {
     }
 }
 
-// Reads a list of floats, and counts how each agrees with what was found; a list of another length differs once more.
-pub fn compare(so_far: Agreement, found: &[f32], most: f64) -> Agreement {
+// Reads a list of floats, and counts how each agrees with the first `n` that were found; a list of another length differs
+// once more.
+pub fn compare(so_far: Agreement, found: &[f32], n: usize, most: f64) -> Agreement {
     let mut agreement = so_far;
     let count = read_word() as usize;
-    if count != found.len() {
+    if count != n {
         agreement.differ = after(agreement.differ);
     }
     let mut i = 0;
@@ -60,16 +61,18 @@ pub fn compare(so_far: Agreement, found: &[f32], most: f64) -> Agreement {
         let expected = read_float();
         if i < found.len() {
             agreement = agreement.with(found[i], expected, most);
+        } else {
+            agreement.differ = after(agreement.differ);
         }
         i += 1;
     }
     agreement
 }
 
-// Reads a list of words, and answers whether it is what was found.
-pub fn words_agree(found: &[u32]) -> bool {
+// Reads a list of words, and answers whether these are the first `n` that were found.
+pub fn words_agree(found: &[u32], n: usize) -> bool {
     let count = read_word() as usize;
-    let mut same = count == found.len();
+    let mut same = count == n && count <= found.len();
     let mut i = 0;
     while i < count {
         let expected = read_word();

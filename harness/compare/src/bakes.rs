@@ -2,7 +2,7 @@
 //! turns between its keys, which is compared by a rule of its own (pose.rs), the
 //! Rust starts from the port's rotations.
 
-mod case;
+pub mod case;
 mod sorts;
 pub mod speed;
 

@@ -10,6 +10,10 @@
 //! NaN is written 7fc00000. The weights come from the C library's `acosf` and
 //! `sinf`, so that another C library may give other last digits.
 
+mod fields;
+mod gltf;
+pub mod published;
+
 use crate::{
     leaves::{narrowing, roots, turns},
     rng::Rng,

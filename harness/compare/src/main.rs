@@ -8,7 +8,8 @@
 //! cargo run --release -- long     the bakes of 10^7 scenes
 //! cargo run --release -- speed    CPU time of both sides, or of one area
 //! cargo run --release -- list     the Rust's answers, for crates/replay; with
-//!                                 the word samples those for crates/replay_samples
+//!                                 the word samples those for crates/replay_samples,
+//!                                 with published those for crates/samples
 //! ```
 //!
 //! ORACLE_SRC names the folder of the Rust's source and PORT_LIB_DIR that of
@@ -80,8 +81,9 @@ fn main() -> io::Result<ExitCode> {
         ["speed", area] => speed(area),
         ["list"] => list::write(&mut io::stdout().lock())?,
         ["list", "samples"] => sampling::list::write(&mut io::stdout().lock())?,
+        ["list", "published"] => list::published::write(&mut io::stdout().lock())?,
         _ => {
-            eprintln!("usage: compare gate [AREA] | roots | long | speed [AREA] | list [samples]");
+            eprintln!("usage: compare gate [AREA] | roots | long | speed [AREA] | list [samples | published]");
             return Ok(ExitCode::from(2));
         }
     }

@@ -112,18 +112,10 @@ impl<'a> Case<'a> {
         scene.world_mesh_with(NodeId(node), &worlds)
     }
 
-    /// The floats of the Rust's mesh, none where it gives no mesh.
+    /// None where the Rust gives no mesh.
     fn outputs(&self, node: u32) -> [Vec<f32>; 3] {
-        let primitives = self.rust_mesh(node).map_or(Vec::new(), |m| m.primitives);
-        let all = primitives.iter();
-        [
-            all.clone().flat_map(|p| p.positions.concat()).collect(),
-            all.clone()
-                .flat_map(|p| p.normals.iter().flat_map(|rows| rows.concat()))
-                .collect(),
-            all.flat_map(|p| p.tangents.iter().flat_map(|rows| rows.concat()))
-                .collect(),
-        ]
+        let mesh = self.rust_mesh(node);
+        mesh.map_or_else(Default::default, |mesh| outputs_of(&mesh))
     }
 
     /// The lowest that applies, or 0.
@@ -190,6 +182,19 @@ impl<'a> Case<'a> {
         room.places[..places.len()].copy_from_slice(places);
         room.worlds[..worlds.len()].copy_from_slice(worlds);
     }
+}
+
+/// Positions, normals and tangents, the primitives one after the other.
+pub fn outputs_of(mesh: &Mesh) -> [Vec<f32>; 3] {
+    let all = mesh.primitives.iter();
+    [
+        all.clone().flat_map(|p| p.positions.concat()).collect(),
+        all.clone()
+            .flat_map(|p| p.normals.iter().flat_map(|rows| rows.concat()))
+            .collect(),
+        all.flat_map(|p| p.tangents.iter().flat_map(|rows| rows.concat()))
+            .collect(),
+    ]
 }
 
 pub fn is_turn(channel: &AnimationChannel) -> bool {
