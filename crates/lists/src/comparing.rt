@@ -48,12 +48,11 @@ impl Agreement {
     }
 }
 
-// Reads a list of floats, and counts how each agrees with the first `n` that were found; a list of another length differs
-// once more.
-pub fn compare(so_far: Agreement, found: &[f32], n: usize, most: f64) -> Agreement {
+// Reads a list of floats, and counts how each agrees with what was found; a list of another length differs once more.
+pub fn compare(so_far: Agreement, found: &[f32], most: f64) -> Agreement {
     let mut agreement = so_far;
     let count = read_word() as usize;
-    if count != n {
+    if count != found.len() {
         agreement.differ = after(agreement.differ);
     }
     let mut i = 0;
@@ -61,18 +60,22 @@ pub fn compare(so_far: Agreement, found: &[f32], n: usize, most: f64) -> Agreeme
         let expected = read_float();
         if i < found.len() {
             agreement = agreement.with(found[i], expected, most);
-        } else {
-            agreement.differ = after(agreement.differ);
         }
         i += 1;
     }
     agreement
 }
 
-// Reads a list of words, and answers whether these are the first `n` that were found.
-pub fn words_agree(found: &[u32], n: usize) -> bool {
+// Reads a list of floats, and answers whether it is what was found, by bits.
+pub fn floats_agree(found: &[f32]) -> bool {
+    let agreement = compare(Agreement::new(), found, 0.0);
+    agreement.differ == 0
+}
+
+// The same of words.
+pub fn words_agree(found: &[u32]) -> bool {
     let count = read_word() as usize;
-    let mut same = count == n && count <= found.len();
+    let mut same = count == found.len();
     let mut i = 0;
     while i < count {
         let expected = read_word();

@@ -5,9 +5,9 @@ mod counting;
 mod fields;
 mod printing;
 mod reading;
-mod scenes;
 
 pub use comparing::compare;
+pub use comparing::floats_agree;
 pub use comparing::is_near;
 pub use comparing::words_agree;
 pub use fields::hexadecimal;
@@ -18,7 +18,6 @@ pub use reading::read_float;
 pub use reading::read_floats;
 pub use reading::read_word;
 pub use reading::read_words;
-pub use scenes::read_header;
 
 // How far a number that a Linear turn gives may lie from the Rust's: 2^-19.
 pub const TURN_GAP: f64 = 0.0000019073486328125;

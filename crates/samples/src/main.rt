@@ -34,7 +34,7 @@ fn replay_sample(name: &[u8], so_far: Tally) -> Tally {
     let mut floats = [0.0f32; 2048];
     let mut node_weights = [0.0f32; 16];
     let mut mesh_weights = [0.0f32; 16];
-    let h = lists::read_header();
+    let h = scene_lists::read_header();
     let w = lists::read_words(&mut words);
     let f = lists::read_floats(&mut floats);
     let n = lists::read_floats(&mut node_weights);

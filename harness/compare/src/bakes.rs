@@ -62,7 +62,8 @@ fn compare_scenes(small: usize, large: usize, seed: u64) -> bool {
     comparison.report()
 }
 
-fn step_turns(animation: &mut Animation) {
+/// Linear turns become Step ones.
+pub fn step_turns(animation: &mut Animation) {
     let turns = animation.channels.iter_mut().filter(|c| is_turn(c));
     turns.for_each(|channel| channel.sampler.interpolation = Interpolation::Step);
 }

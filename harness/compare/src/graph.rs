@@ -4,7 +4,7 @@
 pub mod answers;
 mod case;
 mod on_bytes;
-mod poses;
+pub mod poses;
 pub mod scenes;
 pub mod sorts;
 pub mod speed;

@@ -10,9 +10,11 @@
 //! NaN is written 7fc00000. The weights come from the C library's `acosf` and
 //! `sinf`, so that another C library may give other last digits.
 
+mod calls;
 mod fields;
 mod gltf;
 pub mod published;
+pub mod scenes;
 
 use crate::{
     leaves::{narrowing, roots, turns},

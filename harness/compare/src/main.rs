@@ -9,7 +9,8 @@
 //! cargo run --release -- speed    CPU time of both sides, or of one area
 //! cargo run --release -- list     the Rust's answers, for crates/replay; with
 //!                                 the word samples those for crates/replay_samples,
-//!                                 with published those for crates/samples
+//!                                 with published those for crates/samples, with
+//!                                 scenes those for crates/replay_scenes
 //! ```
 //!
 //! ORACLE_SRC names the folder of the Rust's source and PORT_LIB_DIR that of
@@ -82,8 +83,9 @@ fn main() -> io::Result<ExitCode> {
         ["list"] => list::write(&mut io::stdout().lock())?,
         ["list", "samples"] => sampling::list::write(&mut io::stdout().lock())?,
         ["list", "published"] => list::published::write(&mut io::stdout().lock())?,
+        ["list", "scenes"] => list::scenes::write(&mut io::stdout().lock())?,
         _ => {
-            eprintln!("usage: compare gate [AREA] | roots | long | speed [AREA] | list [samples | published]");
+            eprintln!("usage: compare gate [AREA] | roots | long | speed [AREA] | list [samples | published | scenes]");
             return Ok(ExitCode::from(2));
         }
     }

@@ -1,6 +1,6 @@
 //! Morphed vertices: `morphed_floats` on directed and on generated primitives.
 
-mod case;
+pub mod case;
 mod directed;
 mod sorts;
 pub mod speed;

@@ -24,8 +24,8 @@ use crate::{
     tally::{Met, Tally, UNTOUCHED},
 };
 use oracle::{
-    Animation, AnimationChannel, AnimationProperty, AnimationTarget, AnimationValues, Pose,
-    SampledValue, Scene3D,
+    Animation, AnimationChannel, AnimationProperty, AnimationTarget, AnimationValues, SampledValue,
+    Scene3D,
 };
 use std::array::from_fn;
 
@@ -135,6 +135,37 @@ impl Moved {
         }
     }
 
+    /// What the port is to leave of the Rust's pose, where there is room for it.
+    pub fn put_rust_pose(&self, time: f32, marks: &mut [u32], slots: &mut [f32]) {
+        let pose = self.animation.sample_pose(time, self.nodes);
+        for (node, word) in self.standing(time).into_iter().enumerate() {
+            let (t, r, s) = (
+                pose.translations[node],
+                pose.rotations[node],
+                pose.scales[node],
+            );
+            let is_posed = [t.is_some(), r.is_some(), s.is_some()];
+            marks[WORDS * node..][..3].copy_from_slice(&is_posed.map(u32::from));
+            marks[WORDS * node + 3] = word;
+            let floats = &mut slots[FLOATS * node..][..FLOATS];
+            floats[..3].copy_from_slice(&t.unwrap_or_default());
+            floats[3..7].copy_from_slice(&r.unwrap_or_default());
+            floats[7..].copy_from_slice(&s.unwrap_or_default());
+        }
+    }
+
+    /// Of each node, 1 + the channel whose morph weights stand, or 0.
+    fn standing(&self, time: f32) -> Vec<u32> {
+        let mut standing = vec![0; self.nodes];
+        for (k, channel) in (1..).zip(&self.animation.channels) {
+            let is_of_weights = channel.target.property == AnimationProperty::MorphWeights;
+            if is_of_weights && self.fate(channel, time) == Fate::Given {
+                standing[node_of(channel)] = k;
+            }
+        }
+        standing
+    }
+
     fn fate(&self, channel: &AnimationChannel, time: f32) -> Fate {
         if node_of(channel) >= self.nodes {
             return Fate::AimedPastNodes;
@@ -198,21 +229,6 @@ impl Answer {
         let (marks, slots) = (&mut answer.marks, &mut answer.slots);
         answer.number = port::sample_pose(&lent.of_port(), time, marks, slots);
         answer
-    }
-
-    /// The fourth words are given.
-    fn put(&mut self, pose: &Pose, standing: &[u32]) {
-        let (ts, rs, ss) = (&pose.translations, &pose.rotations, &pose.scales);
-        for (node, word) in standing.iter().enumerate() {
-            let (t, r, s) = (ts[node], rs[node], ss[node]);
-            let marks = [t.is_some(), r.is_some(), s.is_some()].map(u32::from);
-            self.marks[WORDS * node..][..3].copy_from_slice(&marks);
-            self.marks[WORDS * node + 3] = *word;
-            let floats = &mut self.slots[FLOATS * node..][..FLOATS];
-            floats[..3].copy_from_slice(&t.unwrap_or_default());
-            floats[3..7].copy_from_slice(&r.unwrap_or_default());
-            floats[7..].copy_from_slice(&s.unwrap_or_default());
-        }
     }
 
     /// Takes over a node's rotation as far as the rule allows.
@@ -328,27 +344,23 @@ impl Comparison {
     /// port names other weights.
     fn put_pose(&mut self, rust: &mut Answer, moved: &Moved, time: f32, port: &Answer) -> bool {
         let pose = moved.animation.sample_pose(time, moved.nodes);
-        let mut standing = vec![0; moved.nodes];
         let mut rules = vec![Rule::EqualBits; moved.nodes];
         let mut given = Vec::new();
-        for (k, channel) in (1..).zip(&moved.animation.channels) {
+        for (channel, track) in moved.animation.channels.iter().zip(&moved.tracks) {
             let (node, property) = (node_of(channel), channel.target.property);
             let fate = moved.fate(channel, time);
             self.channels.count(fate as usize);
             if property == AnimationProperty::Rotation && fate >= Fate::WithoutLength {
-                let rule = self.rule(&moved.tracks[k as usize - 1], time);
+                let rule = self.rule(track, time);
                 if fate == Fate::Given || rule == Rule::NotCompared {
                     rules[node] = rule;
                 }
             }
             if fate == Fate::Given {
-                if property == AnimationProperty::MorphWeights {
-                    standing[node] = k;
-                }
                 self.met_given(channel.target, &mut given);
             }
         }
-        rust.put(&pose, &standing);
+        moved.put_rust_pose(time, &mut rust.marks, &mut rust.slots);
         for (node, rule) in rules.into_iter().enumerate() {
             rust.take_rotation(node, rule, port);
         }

@@ -1,11 +1,11 @@
 //! Palettes, skin roots and morph weights: `joint_matrices_floats`, `skin_root`
 //! and `effective_weights_floats` on scenes of every sort.
 
-mod case;
+pub mod case;
 mod scenes;
 mod sorts;
 pub mod speed;
-mod worlds;
+pub mod worlds;
 
 use crate::{
     graph::no_animation,

@@ -1,9 +1,9 @@
 //! `Primitive::transformed` and `Primitive::skinned`, on meshes whose attributes
 //! are absent, shorter or longer than the positions.
 
-mod meshes;
+pub mod meshes;
 mod rigid;
-mod skinned;
+pub mod skinned;
 pub mod speed;
 
 /// Of each comparison.

@@ -1,25 +1,26 @@
 //! Bakes of two published glTF samples at several times, which the program
-//! `samples` does again and compares. The list (fields.rs) has, of each sample:
+//! `samples` does again and compares. Of each sample the list has (fields.rs):
 //!
 //! ```text
 //! the scene
 //! how many bakes there are, and of each
-//!   node, time, 1 where a Linear turn is between its keys and otherwise 0, how many vertices are printed
-//!   the answer: number, floats of positions, normals and tangents, entries taken
-//!   the lists of positions, normals and tangents
+//!   the bake
+//!   how many of its vertices are printed
 //! ```
 //!
 //! The turns come from the C library's `acosf` and `sinf`, so that another C
 //! library may give other last digits.
 
 use super::{
-    fields::Fields,
+    fields::{Asked, Line},
     gltf::{animated_morph_cube, simple_skin, Sample},
 };
 use crate::{
-    bakes::case::{is_turn, outputs_of},
+    bakes::case::{is_turn, outputs_of, room},
     graph::answers::Answers,
+    port::Baked,
     tables::{build::lend, layout::Layout},
+    tally::one_nan_bits,
 };
 use oracle::{AnimationChannel, NodeId};
 use std::io::{self, BufWriter, Write};
@@ -35,49 +36,56 @@ const SKIN_VERTICES: u32 = 10;
 const CUBE_VERTICES: u32 = 4;
 
 pub fn write(out: &mut impl Write) -> io::Result<()> {
-    let mut fields = Fields::new(BufWriter::new(out));
-    write_sample(&mut fields, &simple_skin()?, &SKIN_TIMES, SKIN_VERTICES)?;
+    let mut out = BufWriter::new(out);
+    write_sample(&mut out, &simple_skin()?, &SKIN_TIMES, SKIN_VERTICES)?;
     let cube = animated_morph_cube()?;
     let keys = &cube.animation.channels[0].sampler.keyframes;
     let mut times: Vec<f32> = CUBE_KEYS.iter().map(|k| keys[*k]).collect();
     times.extend(CUBE_TIMES);
     times.sort_by(f32::total_cmp);
-    write_sample(&mut fields, &cube, &times, CUBE_VERTICES)?;
-    fields.flush()
+    write_sample(&mut out, &cube, &times, CUBE_VERTICES)?;
+    out.flush()
 }
 
 fn write_sample(
-    fields: &mut Fields<impl Write>,
+    out: &mut impl Write,
     sample: &Sample,
     times: &[f32],
     printed: u32,
 ) -> io::Result<()> {
     let lent = lend(&sample.scene, &sample.animation, &mut Layout::Compact);
-    fields.scene(&lent.of_port())?;
-    fields.line(&[times.len() as u32])?;
+    Line::scene(&lent.of_port()).write(out)?;
+    Line::of(&[times.len() as u32]).write(out)?;
     for (k, time) in times.iter().enumerate() {
         let vertices = if k == PRINTED { printed } else { 0 };
-        write_bake(fields, sample, *time, vertices)?;
+        bake(sample, *time).numbers(&[vertices]).write(out)?;
     }
     Ok(())
 }
 
-fn write_bake(
-    fields: &mut Fields<impl Write>,
-    sample: &Sample,
-    time: f32,
-    vertices: u32,
-) -> io::Result<()> {
+/// In outputs of just the length that it needs.
+fn bake(sample: &Sample, time: f32) -> Line {
     let (scene, animation) = (&sample.scene, &sample.animation);
     let mesh = scene.world_mesh_at(animation, time, NodeId(NODE));
     let outputs = outputs_of(&mesh.expect("a mesh of the node"));
-    let [positions, normals, tangents] = &outputs.each_ref().map(|floats| floats.len() as u32);
-    let pose = animation.sample_pose(time, scene.nodes.len());
-    let taken = Answers::of(scene, &pose).taken as u32;
-    let turns = animation.channels.iter().any(|c| is_between_turns(c, time));
-    fields.line(&[NODE, time.to_bits(), turns.into(), vertices])?;
-    fields.line(&[0, *positions, *normals, *tangents, taken])?;
-    outputs.iter().try_for_each(|floats| fields.floats(floats))
+    let [positions, normals, tangents] = outputs.each_ref().map(Vec::len);
+    let answers = Answers::of(scene, &animation.sample_pose(time, scene.nodes.len()));
+    let baked = Baked {
+        number: 0,
+        positions,
+        normals,
+        tangents,
+        taken: answers.taken,
+    };
+    let walk = 2 * answers.entries;
+    let lent = room([walk, 0, 0, 0, 0, positions, normals, tangents]);
+    let asked = Asked {
+        node: NODE,
+        time,
+        turns: animation.channels.iter().any(|c| is_between_turns(c, time)),
+    };
+    let left = outputs.map(|floats| floats.into_iter().map(one_nan_bits).collect::<Vec<_>>());
+    Line::of(&[]).bake(&asked, &lent, &baked, left.each_ref().map(Vec::as_slice))
 }
 
 fn is_between_turns(channel: &AnimationChannel, time: f32) -> bool {

@@ -1,7 +1,7 @@
 //! A primitive with weights, as both sides take it.
 
 use crate::{
-    port::{morphed_floats, Part, Vertices},
+    port::{morphed_floats, Part, Tables, Vertices},
     tables::{
         build::lend,
         layout::{Layout, Lent},
@@ -31,7 +31,7 @@ impl<'a> Case<'a> {
         more: [usize; 3],
     ) -> Self {
         let lent = lend_primitive(base, layout);
-        let targets = targets_of(&lent);
+        let targets = targets_of(&lent.of_port());
         Case {
             base,
             weights,
@@ -84,7 +84,7 @@ pub fn lend_primitive(base: &Primitive, layout: &mut Layout) -> Lent {
 }
 
 /// The targets of the first primitive of the first mesh.
-pub fn targets_of(lent: &Lent) -> Part {
+pub fn targets_of(lent: &Tables) -> Part {
     let tables = lent.header.meshes;
     let first = lent.words[tables.meshes.at] as usize;
     let record = &lent.words[tables.primitives.at + first * PRIMITIVE_WORDS..];

@@ -21,7 +21,7 @@ fn measure_targets(vertices: usize, in_betweens: usize) {
     let base = primitive(&mut rng, vertices, in_betweens);
     let weights: Vec<f32> = repeat_with(|| rng.unit()).take(TARGETS).collect();
     let lent = lend_primitive(&base, &mut Layout::Compact);
-    let targets = targets_of(&lent);
+    let targets = targets_of(&lent.of_port());
     let lent = lent.of_port();
     let rest = vertices_of(&base, [0; 3]);
     let mut out = rest.clone();

@@ -80,17 +80,16 @@ pub fn of_rust(vertices: &Vertices) -> Primitive {
     }
 }
 
-/// The Rust's vertices in place of those that were lent, one attribute after
-/// the other; floats past the last row stay.
-pub fn over(lent: &Vertices, done: &Primitive) -> Vec<f32> {
+/// The Rust's vertices in place of those that were lent; floats past the last row
+/// stay.
+pub fn over(lent: &Vertices, done: &Primitive) -> Vertices {
     let normals = done.normals.as_deref().unwrap_or(&[]);
     let tangents = done.tangents.as_deref().unwrap_or(&[]);
-    [
-        overlaid(&lent.positions, done.positions.as_flattened()),
-        overlaid(&lent.normals, normals.as_flattened()),
-        overlaid(&lent.tangents, tangents.as_flattened()),
-    ]
-    .concat()
+    Vertices {
+        positions: overlaid(&lent.positions, done.positions.as_flattened()),
+        normals: overlaid(&lent.normals, normals.as_flattened()),
+        tangents: overlaid(&lent.tangents, tangents.as_flattened()),
+    }
 }
 
 fn overlaid(lent: &[f32], done: &[f32]) -> Vec<f32> {

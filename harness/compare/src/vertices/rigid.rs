@@ -27,7 +27,7 @@ pub fn compare() -> bool {
         port::transformed(&m, &mut found);
         tally.count_numbers(
             &[m.as_flattened(), &joined(&lent)],
-            &expected,
+            &joined(&expected),
             &joined(&found),
         );
     }

@@ -6,7 +6,7 @@ use super::{
 };
 use crate::{
     matrices::{inputs::number, nearly_affine},
-    port::{self, Influences, Mat4},
+    port::{self, Influences, Mat4, Vertices},
     rng::Rng,
     tally::{Met, Tally},
 };
@@ -30,16 +30,7 @@ pub fn compare() -> bool {
         let influences = influences(&mut rng, count);
         count_sorts(&influences, count, &mut sorts);
 
-        let palette: Vec<Mat4> = influences
-            .palette
-            .chunks_exact(16)
-            .map(|m| rows(m).try_into().expect("a matrix"))
-            .collect();
-        let mut mesh = of_rust(&lent);
-        mesh.joints = Some(rows(&influences.joints));
-        mesh.weights = Some(rows(&influences.weights));
-        let expected = over(&lent, &mesh.skinned(&palette));
-
+        let expected = rust_skinned(&lent, &influences);
         let mut found = lent.clone();
         port::skinned(&influences, &mut found);
         let joints: Vec<f32> = influences.joints.iter().map(|j| *j as f32).collect();
@@ -50,7 +41,7 @@ pub fn compare() -> bool {
                 &influences.weights,
                 &joined(&lent),
             ],
-            &expected,
+            &joined(&expected),
             &joined(&found),
         );
     }
@@ -63,9 +54,21 @@ pub fn compare() -> bool {
     !equal.contains(&false)
 }
 
+pub fn rust_skinned(lent: &Vertices, influences: &Influences) -> Vertices {
+    let palette: Vec<Mat4> = influences
+        .palette
+        .chunks_exact(16)
+        .map(|m| rows(m).try_into().expect("a matrix"))
+        .collect();
+    let mut mesh = of_rust(lent);
+    mesh.joints = Some(rows(&influences.joints));
+    mesh.weights = Some(rows(&influences.weights));
+    over(lent, &mesh.skinned(&palette))
+}
+
 /// Often with fewer or more rows than vertices, with joints that the palette
 /// lacks, and with values past the last row.
-fn influences(rng: &mut Rng, vertices: usize) -> Influences {
+pub fn influences(rng: &mut Rng, vertices: usize) -> Influences {
     let (joint_rows, weight_rows) = (row_count(rng, vertices), row_count(rng, vertices));
     let mut palette = Vec::new();
     for _ in 0..rng.below(MOST_JOINTS + 1) {

@@ -5,10 +5,10 @@ use Rattle.lists.proofs.comparing.compare.Statement.{statement}
 use Rattle.lists.proofs.comparing.compare.Tie as tie
 
 abbrev Inv-loop : tie.InvT-loop
-Inv-loop found n most agreement₀ count i₀ agreement i = Unit {0}
+Inv-loop found most agreement₀ count i₀ agreement i = Unit {0}
 
 abbrev μ-loop : tie.MeasureT-loop
-μ-loop found n most agreement₀ count i₀ agreement i = count - i
+μ-loop found most agreement₀ count i₀ agreement i = count - i
 
 pub compare-spec : {M : Type 1} → statement M
 compare-spec =
@@ -23,7 +23,6 @@ compare-spec =
     (λ c κs. search needs)
     (λ c. search needs)
     (λ c. search needs)
-    (λ c κs. search needs)
     (λ c κs. search needs)
     (λ c. search needs)
     (λ c. search needs)

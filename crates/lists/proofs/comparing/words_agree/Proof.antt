@@ -5,10 +5,10 @@ use Rattle.lists.proofs.comparing.words_agree.Statement.{statement}
 use Rattle.lists.proofs.comparing.words_agree.Tie as tie
 
 abbrev Inv-loop : tie.InvT-loop
-Inv-loop found n count same₀ i₀ same i = Unit {0}
+Inv-loop found count same₀ i₀ same i = Unit {0}
 
 abbrev μ-loop : tie.MeasureT-loop
-μ-loop found n count same₀ i₀ same i = count - i
+μ-loop found count same₀ i₀ same i = count - i
 
 pub words-agree-spec : {M : Type 1} → statement M
 words-agree-spec =

@@ -5,10 +5,10 @@ use Rattle.samples.proofs.bakes.print_vertices.Statement.{statement}
 use Rattle.samples.proofs.bakes.print_vertices.Tie as tie
 
 abbrev Inv-loop : tie.InvT-loop
-Inv-loop vertices positions normals has-normals v₀ v = Unit {0}
+Inv-loop vertices outcome v₀ v = Unit {0}
 
 abbrev μ-loop : tie.MeasureT-loop
-μ-loop vertices positions normals has-normals v₀ v = vertices - v
+μ-loop vertices outcome v₀ v = vertices - v
 
 pub print-vertices-spec : {M : Type 1} → statement M
 print-vertices-spec =
@@ -16,6 +16,7 @@ print-vertices-spec =
     (tie.spec
     Inv-loop
     μ-loop
+    (λ c. search needs)
     (λ c. search needs)
     (λ c κs. search needs)
     (λ c. search needs)

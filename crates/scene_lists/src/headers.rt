@@ -1,6 +1,6 @@
 // The header of a scene as it is lent (docs/TABLES.md): at and count of nine tables, in its order.
-use crate::reading::read_word;
 use animation::Part;
+use lists::read_word;
 use tables::Graph;
 use tables::Header;
 use tables::Meshes;

@@ -1,0 +1,26 @@
+-- `replay_scenes::main` is safe and ends. Assumes nothing.
+use borrow.Author.Needs.{needs}
+use Rattle.replay_scenes.proofs.main.Statement.{statement}
+use Rattle.replay_scenes.proofs.main.Tie as tie
+
+abbrev Inv-loop : tie.InvT-loop
+Inv-loop report₀ left₀ report left = Unit {0}
+
+abbrev μ-loop : tie.MeasureT-loop
+μ-loop report₀ left₀ report left = left
+
+pub main-spec : {M : Type 1} → statement M
+main-spec =
+    tie.close
+    (tie.spec
+    Inv-loop
+    μ-loop
+    (λ c κs. search needs)
+    (λ c κs. search needs)
+    (λ c. search needs)
+    (λ c κs. search needs)
+    (λ c. search needs)
+    (λ c. search needs)
+    (λ c. search needs)
+    (λ c κs. search needs)
+    (λ c. search needs))
