@@ -6,15 +6,13 @@ use Prim.Native.Nat.{ℕ, _*_, _/_, _≤_, min}
 use native.Mathlib.Omega.{arith}
 use borrow.Author.Tests.{eq-eqb, ne-eqb}
 use lib.Ieee.{Float}
-use lib.ListN.{length, take, drop, replicate, length-append, length-drop, length-replicate}
-use lib.Seq.{take-at, length-take-le}
+use lib.ListN.{length, take, drop, replicate, length-replicate}
 use Rattle.model.specs.Lists.{pick}
 use Rattle.model.specs.Scene.{nodeCount}
 use Rattle.model.specs.Placing.{places}
 use Rattle.model.specs.World.{worlds}
 use Rattle.model.specs.Refusals.{placeNumber}
-use Rattle.wire.specs.Bytes.{bytesOfWords, bytesOf, writtenAs, WroteAs}
-use Rattle.wire.proofs.Writing.{all-written}
+use Rattle.wire.specs.Bytes.{bytesOfWords, bytesOf}
 use Rattle.tables.specs.Decoded.{Lent, sceneOf}
 use Rattle.tables.specs.Codes.{codesOf}
 use Rattle.tables.proofs.Decoding.{node-count}
@@ -24,28 +22,18 @@ use Rattle.worlds.specs.declared.Answer.{Answer}
 use Rattle.worlds.specs.Slots.{slotsOf}
 use Rattle.worlds.specs.Placed.{scratchOf, posesIn, Placed}
 use Rattle.worlds.proofs.Delivering.{few, world-room}
-use Rattle.byte_entries.specs.Placed.{walkWords, codeWords, worldFloats, roomIn, PlacedBytes, WrittenBack}
+use Rattle.lent_bytes.specs.Bytes.{walkLimit, codeLimit, worldLimit, used}
+use Rattle.lent_bytes.proofs.Writing.{front}
+use Rattle.byte_entries.specs.Placed.{roomIn, PlacedBytes, WrittenBack}
 
--- a list that starts with a part and keeps its length
-front : {A : Type 0} (left part lent : List A) (n : ℕ) → left ≡ part ++ drop n lent → length left ≡ length lent → n ≤ length lent → take n left ≡ part
-front left part lent n e k h =
-    let m : length part ≡ n = omega (arith, ap length e, length-append part (drop n lent), length-drop n lent) in
-    ap (take n) e ∙ take-at part (drop n lent) n m
-
-pub front-written : {A : Type 0} {g : A → ℕ} (xs : List A) (n : ℕ) (lent left : List ℕ) (count : ℕ) → n ≤ length xs → 4 * n ≤ length lent
-    → WroteAs g (take n xs) lent left count → left ≡ writtenAs g (take n xs) ++ drop (4 * n) lent
-front-written {g = g} xs n lent left count h fit w =
-    let m = length-take-le n xs h in
-    all-written (take n xs) lent left count w (omega (arith, m)) .1 ∙ (λ j. writtenAs g (take n xs) ++ drop (4 * m j) lent)
-
-module _ (l : Lent) (marks : List ℕ) (slots : List Float) (lentSteps leftSteps lentCodes leftCodes : List ℕ) (lentFloats leftFloats : List Float) (a : Answer) (p : Placed l marks slots lentSteps leftSteps lentCodes leftCodes lentFloats leftFloats a) (walk codes worlds′ : List ℕ) (e : (length lentSteps ≡ walkWords walk) × (length lentCodes ≡ codeWords codes) × (length lentFloats ≡ worldFloats worlds′)) where
+module _ (l : Lent) (marks : List ℕ) (slots : List Float) (lentSteps leftSteps lentCodes leftCodes : List ℕ) (lentFloats leftFloats : List Float) (a : Answer) (p : Placed l marks slots lentSteps leftSteps lentCodes leftCodes lentFloats leftFloats a) (walk codes worlds′ : List ℕ) (e : (length lentSteps ≡ used walkLimit walk) × (length lentCodes ≡ used codeLimit codes) × (length lentFloats ≡ used worldLimit worlds′)) where
   drawn : a .number ≡ placeNumber (tablesNumber l) (sceneOf l) (roomIn marks slots walk codes worlds′)
   drawn =
       p .number
       ∙ (λ j. placeNumber (tablesNumber l) (sceneOf l) (record { walkRoom = e .0 j / 2; poseSlots = room marks slots; worldSlots = min (e .1 j) (e .2 j / 16) }))
 
   abbrev wiped : List ℕ
-  wiped = bytesOfWords (replicate (walkWords walk) 0) ++ drop (4 * walkWords walk) walk
+  wiped = bytesOfWords (replicate (used walkLimit walk) 0) ++ drop (4 * used walkLimit walk) walk
 
   abbrev placed : List ℕ
   placed = bytesOfWords (codesOf (places (sceneOf l))) ++ drop (4 * nodeCount (sceneOf l)) codes
@@ -68,13 +56,13 @@ module _ (l : Lent) (marks : List ℕ) (slots : List Float) (lentSteps leftSteps
     none : placeNumber (tablesNumber l) (sceneOf l) (scratchOf lentSteps marks slots lentCodes lentFloats) ≡ 0
     none = sym (p .number) ∙ z
 
-    steps-wiped : leftSteps ≡ replicate (walkWords walk) 0
+    steps-wiped : leftSteps ≡ replicate (used walkLimit walk) 0
     steps-wiped =
         p .walk ∙ ap (λ (b : Bool). pick b (replicate (length lentSteps) 0) lentSteps) (eq-eqb (a .number) 0 z)
         ∙ ap (λ (n : ℕ). replicate n 0) (e .0)
 
-    steps-length : length leftSteps ≡ walkWords walk
-    steps-length = ap length steps-wiped ∙ length-replicate (walkWords walk) 0
+    steps-length : length leftSteps ≡ used walkLimit walk
+    steps-length = ap length steps-wiped ∙ length-replicate (used walkLimit walk) 0
 
     enough : (l .header .graph .nodes .count ≤ length lentCodes) × (l .header .graph .nodes .count * 16 ≤ length lentFloats)
     enough = (few l marks slots lentSteps lentCodes lentFloats none .1, world-room l marks slots lentSteps lentCodes lentFloats none)

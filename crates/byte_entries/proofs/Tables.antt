@@ -1,31 +1,14 @@
--- The scene that is decoded from bytes. Assumes nothing.
-use mathlib.Core.Path.{_≡_, refl, sym, ap, _∙_, subst}
-use mathlib.Core.Bool.{Bool, true, false, true≢false, _||_}
+-- A placing on bytes, of an equal scene or pose, and of one that is over size. Assumes nothing.
+use mathlib.Core.Path.{_≡_, refl, sym, subst}
 use mathlib.Core.List.{List}
-use Prim.Native.Nat.{ℕ, _/_, _≤_}
-use native.Mathlib.Omega.{arith}
-use borrow.Author.Tests.{ltb-false}
-use lib.Dec.{ltb}
-use lib.Ieee.{Float, binary32, ofBits}
-use lib.ListN.{length, take, replicate, length-replicate}
-use lib.Seq.{take-all}
-use Rattle.model.specs.Lists.{pick}
+use Prim.Native.Nat.{ℕ}
+use lib.Ieee.{Float}
 use Rattle.model.specs.Refusals.{placeNumber}
-use Rattle.model.specs.Written.{Wrote}
-use Rattle.wire.specs.Bytes.{wordsIn, floatsIn, readAs}
-use Rattle.wire.proofs.Reading.{count, first-read}
-use Rattle.tables.specs.declared.Header.{Header}
 use Rattle.tables.specs.Decoded.{Lent, sceneOf}
-use Rattle.checks.specs.Drawn.{lentAs, tablesNumber}
+use Rattle.checks.specs.Drawn.{tablesNumber}
 use Rattle.worlds.specs.declared.Answer.{Answer}
-use Rattle.byte_entries.specs.Placed.{wordLimit, floatLimit, isOver, lentIn, drawnIn, roomIn, PlacedBytes}
+use Rattle.byte_entries.specs.Placed.{roomIn, PlacedBytes}
 
--- what is read into an array
-pub read-into : {A : Type 0} (f : ℕ → A) (bytes : List ℕ) (k : ℕ) (z : A) (left : List A) (n : ℕ) → Wrote (readAs f bytes) (replicate k z) left n
-    → take n left ≡ take k (readAs f bytes)
-read-into f bytes k z left n w = first-read f bytes (replicate k z) n left w ∙ ap (λ (m : ℕ). take m (readAs f bytes)) (length-replicate k z)
-
--- ---- the same of equal lists
 module _ (lentWalk leftWalk lentCodes leftCodes lentWorlds leftWorlds : List ℕ) (a : Answer) where
   pub same-pose : (l : Lent) {marks four : List ℕ} {slots ten : List Float} → four ≡ marks → ten ≡ slots
       → PlacedBytes (tablesNumber l) l four ten lentWalk leftWalk lentCodes leftCodes lentWorlds leftWorlds a
@@ -33,46 +16,16 @@ module _ (lentWalk leftWalk lentCodes leftCodes lentWorlds leftWorlds : List ℕ
   same-pose l p q d =
       subst (λ (x : List ℕ × List Float). PlacedBytes (tablesNumber l) l (x .0) (x .1) lentWalk leftWalk lentCodes leftCodes lentWorlds leftWorlds a) (λ j. (p j, q j)) d
 
+  pub same-drawn : (marks : List ℕ) (slots : List Float) {x y : ℕ × Lent} → x ≡ y
+      → PlacedBytes (x .0) (x .1) marks slots lentWalk leftWalk lentCodes leftCodes lentWorlds leftWorlds a
+      → PlacedBytes (y .0) (y .1) marks slots lentWalk leftWalk lentCodes leftCodes lentWorlds leftWorlds a
+  same-drawn marks slots p d =
+      subst (λ (x : ℕ × Lent). PlacedBytes (x .0) (x .1) marks slots lentWalk leftWalk lentCodes leftCodes lentWorlds leftWorlds a) p d
+
   pub same-scene : (marks : List ℕ) (slots : List Float) {l m : Lent} → l ≡ m
       → PlacedBytes (tablesNumber l) l marks slots lentWalk leftWalk lentCodes leftCodes lentWorlds leftWorlds a
       → PlacedBytes (tablesNumber m) m marks slots lentWalk leftWalk lentCodes leftCodes lentWorlds leftWorlds a
-  same-scene marks slots p d =
-      subst (λ (x : Lent). PlacedBytes (tablesNumber x) x marks slots lentWalk leftWalk lentCodes leftCodes lentWorlds leftWorlds a) p d
-
--- ---- slices by their lengths
-neither : (p q : Bool) → (p || q) ≡ false → (p ≡ false) × (q ≡ false)
-neither true q h = absurd (true≢false h)
-neither false q h = (refl, h)
-
-module _ (words floats nodeWeights meshWeights : List ℕ) (h : Header) where
-  module _ (within : isOver (length words / 4) (length floats / 4) (length nodeWeights / 4) (length meshWeights / 4) ≡ false) where
-    whole-floats : (bytes : List ℕ) → ltb floatLimit (length bytes / 4) ≡ false → take floatLimit (floatsIn bytes) ≡ floatsIn bytes
-    whole-floats bytes e = take-all floatLimit (floatsIn bytes) (omega (arith, count (ofBits binary32) bytes, ltb-false floatLimit (length bytes / 4) e))
-
-    whole-scene : lentAs (take wordLimit (wordsIn words)) (take floatLimit (floatsIn floats)) (take floatLimit (floatsIn nodeWeights)) (take floatLimit (floatsIn meshWeights)) h ≡ lentIn words floats nodeWeights meshWeights h
-    whole-scene =
-        let a = neither (ltb wordLimit (length words / 4)) _ within in
-        let b = neither (ltb floatLimit (length floats / 4)) _ (a .1) in
-        let c = neither (ltb floatLimit (length nodeWeights / 4)) _ (b .1) in
-        let w : take wordLimit (wordsIn words) ≡ wordsIn words
-        = take-all wordLimit (wordsIn words) (omega (arith, count (λ (n : ℕ). n) words, ltb-false wordLimit (length words / 4) (a .0))) in
-        λ j. lentAs (w j) (whole-floats floats (b .0) j) (whole-floats nodeWeights (c .0) j) (whole-floats meshWeights (c .1) j) h
-
-    drawn-within : tablesNumber (lentIn words floats nodeWeights meshWeights h) ≡ drawnIn words floats nodeWeights meshWeights h
-    unfolding drawnIn
-    drawn-within = ap (λ (b : Bool). pick b 2 (tablesNumber (lentIn words floats nodeWeights meshWeights h))) (sym within)
-
-    pub decoded-whole : (marks : List ℕ) (slots : List Float) (lentWalk leftWalk lentCodes leftCodes lentWorlds leftWorlds : List ℕ) (a : Answer)
-        → PlacedBytes (tablesNumber (lentAs (take wordLimit (wordsIn words)) (take floatLimit (floatsIn floats)) (take floatLimit (floatsIn nodeWeights)) (take floatLimit (floatsIn meshWeights)) h)) (lentAs (take wordLimit (wordsIn words)) (take floatLimit (floatsIn floats)) (take floatLimit (floatsIn nodeWeights)) (take floatLimit (floatsIn meshWeights)) h) marks slots lentWalk leftWalk lentCodes leftCodes lentWorlds leftWorlds a
-        → PlacedBytes (drawnIn words floats nodeWeights meshWeights h) (lentIn words floats nodeWeights meshWeights h) marks slots lentWalk leftWalk lentCodes leftCodes lentWorlds leftWorlds a
-    decoded-whole marks slots lentWalk leftWalk lentCodes leftCodes lentWorlds leftWorlds a d =
-        subst (λ (g : ℕ). PlacedBytes g (lentIn words floats nodeWeights meshWeights h) marks slots lentWalk leftWalk lentCodes leftCodes lentWorlds leftWorlds a) drawn-within
-        (same-scene lentWalk leftWalk lentCodes leftCodes lentWorlds leftWorlds a marks slots whole-scene d)
-
-  pub drawn-over : isOver (length words / 4) (length floats / 4) (length nodeWeights / 4) (length meshWeights / 4) ≡ true
-      → drawnIn words floats nodeWeights meshWeights h ≡ 2
-  unfolding drawnIn
-  drawn-over e = ap (λ (b : Bool). pick b 2 (tablesNumber (lentIn words floats nodeWeights meshWeights h))) e
+  same-scene marks slots p d = same-drawn marks slots (λ j. (tablesNumber (p j), p j)) d
 
 -- over size: nothing is changed
 pub refused-over : (g : ℕ) (l : Lent) (marks : List ℕ) (slots : List Float) (walk codes worlds′ : List ℕ) → g ≡ 2

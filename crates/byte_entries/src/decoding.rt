@@ -1,21 +1,17 @@
 // Bytes decoded into local arrays, slice by slice. Of a slice of more than its array holds the start is decoded.
 use crate::rooms::place_rooms;
+use lent_bytes::FLOATS;
+use lent_bytes::MARKS;
+use lent_bytes::SLOTS;
+use lent_bytes::WORDS;
 use tables::Header;
 use worlds::Answer;
 ghost use mathlib.Core.Path.{_≡_};
 ghost use lib.ListN.{take};
 ghost use Rattle.wire.specs.Bytes.{wordsIn, floatsIn};
 ghost use Rattle.checks.specs.Drawn.{lentAs, tablesNumber};
-ghost use Rattle.byte_entries.specs.Placed.{wordLimit, floatLimit, marksIn, slotsIn, PlacedBytes};
-
-// The most words of a scene, and the most floats of each of its slices.
-const WORDS: usize = 32768;
-
-const FLOATS: usize = 65536;
-// The words and floats of the pose slots of 1,024 nodes.
-const MARKS: usize = 4096;
-
-const SLOTS: usize = 10240;
+ghost use Rattle.lent_bytes.specs.Bytes.{wordLimit, floatLimit};
+ghost use Rattle.byte_entries.specs.Placed.{marksIn, slotsIn, PlacedBytes};
 
 fn place_pose(
     words: &[u32],

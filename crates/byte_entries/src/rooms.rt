@@ -1,18 +1,15 @@
 // The placing in local room, written back to bytes.
+use lent_bytes::NODES;
+use lent_bytes::WALK;
+use lent_bytes::WORLDS;
 use tables::Header;
 use worlds::Answer;
 ghost use mathlib.Core.Path.{_≡_};
 ghost use Prim.Native.Nat.{_+_, _*_, _≤_};
 ghost use lib.ListN.{length, take};
 ghost use Rattle.checks.specs.Drawn.{lentAs, tablesNumber};
-ghost use Rattle.byte_entries.specs.Placed.{walkWords, codeWords, worldFloats, PlacedBytes, WrittenBack};
-
-// The most words of walk room, two an entry: as many as the limits of roots and child entries let a walk need.
-const WALK: usize = 18432;
-// The most nodes, and the floats of their worlds.
-const NODES: usize = 1024;
-
-const WORLDS: usize = 16384;
+ghost use Rattle.lent_bytes.specs.Bytes.{walkLimit, codeLimit, worldLimit, used};
+ghost use Rattle.byte_entries.specs.Placed.{PlacedBytes, WrittenBack};
 
 fn write_back(
     n: usize,
@@ -49,7 +46,7 @@ fn place_over(
     places: &mut [u8],
     worlds: &mut [u8],
 ) -> Answer
-    requires { ⌜ (length (now steps) ≡ walkWords (now walk)) × (length (now codes) ≡ codeWords (now places)) × (length (now matrices) ≡ worldFloats (now worlds)) ⌝ }
+    requires { ⌜ (length (now steps) ≡ used walkLimit (now walk)) × (length (now codes) ≡ used codeLimit (now places)) × (length (now matrices) ≡ used worldLimit (now worlds)) ⌝ }
     ensures { λ r. ⌜ PlacedBytes (tablesNumber (lentAs (now (words .entry)) (now (floats .entry)) (now («node_weights» .entry)) (now («mesh_weights» .entry)) h)) (lentAs (now (words .entry)) (now (floats .entry)) (now («node_weights» .entry)) (now («mesh_weights» .entry)) h) (now (marks .entry)) (now (slots .entry)) (now (walk .entry)) (now (walk .exit)) (now (places .entry)) (now (places .exit)) (now (worlds .entry)) (now (worlds .exit)) r ⌝ }
 {
     let a = worlds::posed_node_transforms(

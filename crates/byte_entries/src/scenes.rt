@@ -1,26 +1,8 @@
 use crate::decoding::place_decoded;
 use tables::Header;
 use worlds::Answer;
-ghost use mathlib.Core.Path.{_≡_};
-ghost use Prim.Native.Nat.{_/_};
-ghost use lib.ListN.{length};
-ghost use Rattle.byte_entries.specs.Placed.{isOver, lentIn, drawnIn, marksIn, slotsIn, PlacedBytes};
-
-// Whether a slice of the scene has more than its local array holds.
-fn is_over(words: usize, floats: usize, node_weights: usize, mesh_weights: usize) -> bool
-    ensures { λ r. ⌜ r ≡ isOver words floats «node_weights» «mesh_weights» ⌝ }
-{
-    if 32768 < words {
-        return true;
-    }
-    if 65536 < floats {
-        return true;
-    }
-    if 65536 < node_weights {
-        return true;
-    }
-    65536 < mesh_weights
-}
+ghost use Rattle.lent_bytes.specs.Bytes.{lentIn, drawnIn};
+ghost use Rattle.byte_entries.specs.Placed.{marksIn, slotsIn, PlacedBytes};
 
 // Where every node stands in a given pose, as `place_floats` says it, on bytes. A slice of the scene of more than its local
 // array holds is over size, 2. Answers 1, 2, 6 or 0, and the entries taken.
@@ -39,7 +21,7 @@ pub extern "C" fn place(
 ) -> Answer
     ensures { λ r. ⌜ PlacedBytes (drawnIn (now (words .entry)) (now (floats .entry)) (now («node_weights» .entry)) (now («mesh_weights» .entry)) header) (lentIn (now (words .entry)) (now (floats .entry)) (now («node_weights» .entry)) (now («mesh_weights» .entry)) header) (marksIn (now (marks .entry))) (slotsIn (now (slots .entry))) (now (walk .entry)) (now (walk .exit)) (now (places .entry)) (now (places .exit)) (now (worlds .entry)) (now (worlds .exit)) r ⌝ }
 {
-    if is_over(
+    if lent_bytes::is_over(
         words.len() / 4,
         floats.len() / 4,
         node_weights.len() / 4,

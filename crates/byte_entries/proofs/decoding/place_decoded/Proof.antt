@@ -8,8 +8,9 @@ use lib.ListN.{take}
 use lib.Seq.{length-take-le}
 use Rattle.wire.specs.Bytes.{floatsIn}
 use Rattle.checks.specs.Drawn.{lentAs}
-use Rattle.byte_entries.specs.Placed.{floatLimit}
-use Rattle.byte_entries.proofs.Tables.{read-into, same-scene}
+use Rattle.lent_bytes.specs.Bytes.{floatLimit}
+use Rattle.lent_bytes.proofs.Decoding.{read-into}
+use Rattle.byte_entries.proofs.Tables.{same-scene}
 use Rattle.byte_entries.proofs.decoding.place_decoded.Statement.{statement}
 use Rattle.byte_entries.proofs.decoding.place_decoded.Tie as tie
 

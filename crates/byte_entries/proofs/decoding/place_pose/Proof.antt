@@ -5,7 +5,8 @@ use borrow.Author.Needs.{needs}
 use denote.Ref.{now}
 use lib.Ieee.{Float, binary32, ofBits}
 use lib.Seq.{length-take-le}
-use Rattle.byte_entries.proofs.Tables.{read-into, same-pose}
+use Rattle.lent_bytes.proofs.Decoding.{read-into}
+use Rattle.byte_entries.proofs.Tables.{same-pose}
 use Rattle.byte_entries.proofs.decoding.place_pose.Statement.{statement}
 use Rattle.byte_entries.proofs.decoding.place_pose.Tie as tie
 

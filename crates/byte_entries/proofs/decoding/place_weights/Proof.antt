@@ -6,7 +6,8 @@ use denote.Ref.{now}
 use lib.Ieee.{Float, binary32, ofBits}
 use lib.Seq.{length-take-le}
 use Rattle.checks.specs.Drawn.{lentAs}
-use Rattle.byte_entries.proofs.Tables.{read-into, same-scene}
+use Rattle.lent_bytes.proofs.Decoding.{read-into}
+use Rattle.byte_entries.proofs.Tables.{same-scene}
 use Rattle.byte_entries.proofs.decoding.place_weights.Statement.{statement}
 use Rattle.byte_entries.proofs.decoding.place_weights.Tie as tie
 

@@ -1,7 +1,8 @@
 -- `byte_entries::scenes::place` meets its contract. Assumes nothing.
 use mathlib.Core.Path.{sym, _∙_}
 use borrow.Author.Needs.{needs}
-use Rattle.byte_entries.proofs.Tables.{drawn-over, decoded-whole, refused-over}
+use Rattle.lent_bytes.proofs.Decoding.{drawn-over, decoded-whole}
+use Rattle.byte_entries.proofs.Tables.{same-drawn, refused-over}
 use Rattle.byte_entries.proofs.scenes.place.Statement.{statement}
 use Rattle.byte_entries.proofs.scenes.place.Tie as tie
 
@@ -10,7 +11,7 @@ returns c = refused-over _ _ _ _ _ _ _ (drawn-over _ _ _ _ _ (sym (c .before .is
 
 returns-2 : tie.Need-returns-2
 returns-2 c =
-    decoded-whole _ _ _ _ _ (sym (c .before .before .before .before .before .before .before .before .before .before .before .is-over .ensures) ∙ c .before .before .before .before .before .before .before .before .before .before .if1 .left) _ _ _ _ _ _ _ _ _ (c .before .before .before .before .before .before .place-decoded .ensures)
+    same-drawn _ _ _ _ _ _ _ _ _ (decoded-whole _ _ _ _ _ (sym (c .before .before .before .before .before .before .before .before .before .before .before .is-over .ensures) ∙ c .before .before .before .before .before .before .before .before .before .before .if1 .left)) (c .before .before .before .before .before .before .place-decoded .ensures)
 
 pub place-spec : {M : Type 1} → statement M
 place-spec =

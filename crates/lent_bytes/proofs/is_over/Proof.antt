@@ -1,10 +1,10 @@
--- `byte_entries::scenes::is_over` meets its contract. Assumes nothing.
+-- `lent_bytes::is_over` meets its contract. Assumes nothing.
 use mathlib.Core.Path.{sym}
 use mathlib.Core.Bool.{_||_}
 use borrow.Author.Tests.{lt-ltb, le-ltb}
 use lib.Dec.{ltb}
-use Rattle.byte_entries.proofs.scenes.is_over.Statement.{statement}
-use Rattle.byte_entries.proofs.scenes.is_over.Tie as tie
+use Rattle.lent_bytes.proofs.is_over.Statement.{statement}
+use Rattle.lent_bytes.proofs.is_over.Tie as tie
 
 returns : tie.Need-returns
 returns c =
