@@ -7,12 +7,14 @@ use native.Mathlib.Omega.{arith}
 use borrow.Author.Tests.{eq-eqb, ne-eqb}
 use lib.Ieee.{Float}
 use lib.ListN.{length, take, drop, replicate, length-replicate}
+use lib.Seq.{length-take-le}
 use Rattle.model.specs.Lists.{pick}
 use Rattle.model.specs.Scene.{nodeCount}
 use Rattle.model.specs.Placing.{places}
 use Rattle.model.specs.World.{worlds}
 use Rattle.model.specs.Refusals.{placeNumber}
-use Rattle.wire.specs.Bytes.{bytesOfWords, bytesOf}
+use Rattle.wire.specs.Bytes.{bytesOfWords, bytesOf, writtenAs, WroteAs}
+use Rattle.wire.proofs.Writing.{all-written}
 use Rattle.tables.specs.Decoded.{Lent, sceneOf}
 use Rattle.tables.specs.Codes.{codesOf}
 use Rattle.tables.proofs.Decoding.{node-count}
@@ -23,8 +25,14 @@ use Rattle.worlds.specs.Slots.{slotsOf}
 use Rattle.worlds.specs.Placed.{scratchOf, posesIn, Placed}
 use Rattle.worlds.proofs.Delivering.{few, world-room}
 use Rattle.lent_bytes.specs.Bytes.{walkLimit, codeLimit, worldLimit, used}
-use Rattle.lent_bytes.proofs.Writing.{front}
+use Rattle.lent_bytes.proofs.Starts.{front}
 use Rattle.byte_entries.specs.Placed.{roomIn, PlacedBytes, WrittenBack}
+
+pub front-written : {A : Type 0} {g : A → ℕ} (xs : List A) (n : ℕ) (lent left : List ℕ) (count : ℕ) → n ≤ length xs → 4 * n ≤ length lent
+    → WroteAs g (take n xs) lent left count → left ≡ writtenAs g (take n xs) ++ drop (4 * n) lent
+front-written {g = g} xs n lent left count h fit w =
+    let m = length-take-le n xs h in
+    all-written (take n xs) lent left count w (omega (arith, m)) .1 ∙ (λ j. writtenAs g (take n xs) ++ drop (4 * m j) lent)
 
 module _ (l : Lent) (marks : List ℕ) (slots : List Float) (lentSteps leftSteps lentCodes leftCodes : List ℕ) (lentFloats leftFloats : List Float) (a : Answer) (p : Placed l marks slots lentSteps leftSteps lentCodes leftCodes lentFloats leftFloats a) (walk codes worlds′ : List ℕ) (e : (length lentSteps ≡ used walkLimit walk) × (length lentCodes ≡ used codeLimit codes) × (length lentFloats ≡ used worldLimit worlds′)) where
   drawn : a .number ≡ placeNumber (tablesNumber l) (sceneOf l) (roomIn marks slots walk codes worlds′)

@@ -7,8 +7,8 @@ use native.Mathlib.Omega.{arith}
 use borrow.Author.Tests.{ltb-false}
 use lib.Dec.{ltb}
 use lib.Ieee.{binary32, ofBits}
-use lib.ListN.{length, take, replicate, length-replicate}
-use lib.Seq.{take-all}
+use lib.ListN.{length, take, drop, replicate, length-append, length-replicate}
+use lib.Seq.{take-all, length-take-le}
 use Rattle.model.specs.Lists.{pick}
 use Rattle.model.specs.Written.{Wrote}
 use Rattle.wire.specs.Bytes.{wordsIn, floatsIn, readAs}
@@ -22,6 +22,11 @@ use Rattle.lent_bytes.specs.Bytes.{wordLimit, floatLimit, isOver, lentIn
 pub read-into : {A : Type 0} (f : ℕ → A) (bytes : List ℕ) (k : ℕ) (z : A) (left : List A) (n : ℕ) → Wrote (readAs f bytes) (replicate k z) left n
     → take n left ≡ take k (readAs f bytes)
 read-into f bytes k z left n w = first-read f bytes (replicate k z) n left w ∙ ap (λ (m : ℕ). take m (readAs f bytes)) (length-replicate k z)
+
+-- and it is there
+pub read-there : {A : Type 0} (results lent left : List A) (n : ℕ) → Wrote results lent left n → n ≤ length left
+read-there results lent left n w =
+    omega (arith, ap length (w .slice), length-append (take n results) (drop n lent), length-take-le n results (omega (arith, w .counted)))
 
 neither : (p q : Bool) → (p || q) ≡ false → (p ≡ false) × (q ≡ false)
 neither true q h = absurd (true≢false h)

@@ -1,2 +1,2 @@
 pub mod Decoding
-pub mod Writing
+pub mod Starts

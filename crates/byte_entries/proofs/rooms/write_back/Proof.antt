@@ -3,7 +3,7 @@ use mathlib.Core.Path.{sym}
 use borrow.Author.Needs.{needs}
 use lib.Seq.{length-take-le}
 use Rattle.wire.proofs.Writing.{all-written}
-use Rattle.lent_bytes.proofs.Writing.{front-written}
+use Rattle.byte_entries.proofs.Delivering.{front-written}
 use Rattle.byte_entries.proofs.rooms.write_back.Statement.{statement}
 use Rattle.byte_entries.proofs.rooms.write_back.Tie as tie
 

@@ -1,0 +1,4 @@
+pub mod Numbers
+pub mod Starting
+pub mod Delivering
+pub mod Tables

@@ -1,0 +1,116 @@
+-- The bake on a scene that is lent in bytes: what it answers and leaves. Definitions only.
+use mathlib.Core.Path.{_≡_}
+use mathlib.Core.List.{List, [], _++_}
+use Prim.Native.Nat.{ℕ, _/_, min}
+use lib.Ieee.{Float}
+use lib.ListN.{length, drop, replicate}
+use Rattle.model.specs.Lists.{pick, isSome}
+use Rattle.model.specs.Scene.{Scene, nodeCount}
+use Rattle.model.specs.Placing.{places}
+use Rattle.model.specs.World.{posesOf, worlds}
+use Rattle.model.specs.Bake as model
+use Rattle.wire.specs.Bytes.{bytesOfWords, bytesOf}
+use Rattle.tables.specs.Decoded.{Lent, sceneOf}
+use Rattle.tables.specs.Codes.{codesOf}
+use Rattle.checks.specs.Drawn.{tablesNumber}
+use Rattle.pose.specs.Encoded.{encodedWords, encodedFloats}
+use Rattle.worlds.specs.Slots.{slotsOf}
+use Rattle.bake.specs.declared.Answer.{Answer}
+use Rattle.bake.specs.Scratch.{Slices}
+use Rattle.bake.specs.Baked.{Room, answerOf}
+use Rattle.lent_bytes.specs.Bytes.{floatLimit, markLimit, slotLimit, walkLimit, codeLimit, worldLimit, used}
+
+-- the scratch room and the three outputs, in bytes
+pub record ByteSlices : Type 0 where
+  pub marks : List ℕ
+  pub slots : List ℕ
+  pub walk : List ℕ
+  pub places : List ℕ
+  pub worlds : List ℕ
+
+pub record ByteOutput : Type 0 where
+  pub positions : List ℕ
+  pub normals : List ℕ
+  pub tangents : List ℕ
+
+pub record ByteRoom : Type 0 where
+  pub scratch : ByteSlices
+  pub output : ByteOutput
+
+-- node i at a time, with as much room as is used
+abbrev pub requestIn : ℕ → Float → ByteRoom → model.Request
+requestIn i time r = record {
+  node = i;
+  time = time;
+  scratch = record {
+    walkRoom = used walkLimit (r .scratch .walk) / 2;
+    poseSlots = min (used markLimit (r .scratch .marks) / 4) (used slotLimit (r .scratch .slots) / 10);
+    worldSlots = min (used codeLimit (r .scratch .places)) (used worldLimit (r .scratch .worlds) / 16);
+  };
+  positionRoom = used floatLimit (r .output .positions);
+  normalRoom = used floatLimit (r .output .normals);
+  tangentRoom = used floatLimit (r .output .tangents);
+}
+
+-- ---- what is written
+
+-- the pose, the place and the world of every node, and zeros for so many words of the walk
+abbrev pub scratchFor : Scene → Float → ℕ → Slices
+scratchFor s time steps = record {
+  marks = encodedWords time (nodeCount s) (s .tracks) [];
+  slots = encodedFloats time (nodeCount s) (s .tracks) [];
+  walk = replicate steps 0;
+  places = codesOf (places s);
+  worlds = slotsOf (worlds (posesOf time s) s);
+}
+
+abbrev pub nothing : Slices
+nothing = record { marks = []; slots = []; walk = []; places = []; worlds = [] }
+
+-- the result of the bake, and the scratch room as an accepted call leaves it, but nothing there after 1 to 7
+unfoldable pub writtenBy : ℕ → Lent → ℕ → Float → ByteRoom → Room
+writtenBy drawn l i time lent =
+    let s = sceneOf l in
+    let r = requestIn i time lent in
+    record {
+      scratch = pick (isSome (model.leftBy drawn s r)) (scratchFor s time (used walkLimit (lent .scratch .walk))) nothing;
+      output = model.bake drawn s r .output;
+    }
+
+-- bytes with others at the start, as lent past these
+abbrev pub startingWith : List ℕ → List ℕ → List ℕ
+startingWith bytes lent = bytes ++ drop (length bytes) lent
+
+abbrev pub withWords : List ℕ → List ℕ → List ℕ
+withWords words lent = startingWith (bytesOfWords words) lent
+
+abbrev pub withFloats : List Float → List ℕ → List ℕ
+withFloats floats lent = startingWith (bytesOf floats) lent
+
+abbrev pub withScratch : Slices → ByteSlices → ByteSlices
+withScratch r lent = record {
+  marks = withWords (r .marks) (lent .marks);
+  slots = withFloats (r .slots) (lent .slots);
+  walk = withWords (r .walk) (lent .walk);
+  places = withWords (r .places) (lent .places);
+  worlds = withFloats (r .worlds) (lent .worlds);
+}
+
+abbrev pub withOutput : model.Output → ByteOutput → ByteOutput
+withOutput o lent = record {
+  positions = withFloats (o .positions) (lent .positions);
+  normals = withFloats (o .normals) (lent .normals);
+  tangents = withFloats (o .tangents) (lent .tangents);
+}
+
+abbrev pub withRoom : Room → ByteRoom → ByteRoom
+withRoom r lent = record { scratch = withScratch (r .scratch) (lent .scratch); output = withOutput (r .output) (lent .output) }
+
+-- `drawn` is what the tables drew
+pub record BakedBytes (drawn : ℕ) (l : Lent) (i : ℕ) (time : Float) (lent left : ByteRoom) (a : Answer) : Type 0 where
+  pub answer : answerOf a ≡ model.bake drawn (sceneOf l) (requestIn i time lent) .answer
+  pub room : left ≡ withRoom (writtenBy drawn l i time lent) lent
+
+-- what the tables of a decoded scene drew
+abbrev pub BakedLent : Lent → ℕ → Float → ByteRoom → ByteRoom → Answer → Type 0
+BakedLent l i time lent left a = BakedBytes (tablesNumber l) l i time lent left a

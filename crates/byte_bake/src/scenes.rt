@@ -1,0 +1,63 @@
+use crate::decoding::bake_decoded;
+use bake::Answer;
+use tables::Header;
+ghost use lib.Ieee.{binary32, ofBits};
+ghost use Rattle.lent_bytes.specs.Bytes.{lentIn, drawnIn};
+ghost use Rattle.byte_bake.specs.Baked.{BakedBytes};
+
+// The mesh of a node in the world at the time with the given bit pattern, as `bake_floats` says it, on bytes. A slice of the
+// scene of more than its local array holds is over size, 2. Answers 1, 2, 3, 5 to 10 or 0. What the scratch room and the
+// outputs hold at entry is not read.
+#[no_mangle]
+pub extern "C" fn bake(
+    words: &[u8],
+    floats: &[u8],
+    node_weights: &[u8],
+    mesh_weights: &[u8],
+    header: Header,
+    node: u32,
+    time: u32,
+    marks: &mut [u8],
+    slots: &mut [u8],
+    walk: &mut [u8],
+    places: &mut [u8],
+    worlds: &mut [u8],
+    positions: &mut [u8],
+    normals: &mut [u8],
+    tangents: &mut [u8],
+) -> Answer
+    ensures { λ r. ⌜ BakedBytes (drawnIn (now (words .entry)) (now (floats .entry)) (now («node_weights» .entry)) (now («mesh_weights» .entry)) header) (lentIn (now (words .entry)) (now (floats .entry)) (now («node_weights» .entry)) (now («mesh_weights» .entry)) header) node (ofBits binary32 time) (record { scratch = record { marks = now (marks .entry); slots = now (slots .entry); walk = now (walk .entry); places = now (places .entry); worlds = now (worlds .entry) }; output = record { positions = now (positions .entry); normals = now (normals .entry); tangents = now (tangents .entry) } }) (record { scratch = record { marks = now (marks .exit); slots = now (slots .exit); walk = now (walk .exit); places = now (places .exit); worlds = now (worlds .exit) }; output = record { positions = now (positions .exit); normals = now (normals .exit); tangents = now (tangents .exit) } }) r ⌝ }
+{
+    if lent_bytes::is_over(
+        words.len() / 4,
+        floats.len() / 4,
+        node_weights.len() / 4,
+        mesh_weights.len() / 4,
+    ) {
+        return Answer {
+            number: 2,
+            positions: 0,
+            normals: 0,
+            tangents: 0,
+            taken: 0,
+        };
+    }
+    let time = float::from_bits(time);
+    bake_decoded(
+        words,
+        floats,
+        node_weights,
+        mesh_weights,
+        header,
+        node,
+        time,
+        marks,
+        slots,
+        walk,
+        places,
+        worlds,
+        positions,
+        normals,
+        tangents,
+    )
+}
