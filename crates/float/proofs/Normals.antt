@@ -2,24 +2,22 @@
 use mathlib.Core.Path.{_≡_, refl, sym, ap, _∙_, subst}
 use mathlib.Core.Bool.{Bool, true, false, not, _||_, true≢false}
 use mathlib.Core.List.{List, [], _∷_}
-use Prim.Native.Nat.{ℕ, zero, suc, _+_, _-_, _*_, _/_, _%_, _^_, _≤_, _<_}
+use Prim.Native.Nat.{ℕ, zero, suc, _+_, _-_, _*_, _/_, _^_, _≤_, _<_}
 use native.Mathlib.Nat.{le-of-suc-le-suc, le-trans, le-of-eq, lt-of-le-of-lt, zero-mul, mul-left-comm, mul-right-comm, mul-one, mul-le-mul-left, mul-le-mul-right, mul-lt-mul-of-pos-right, mul-pos, le-div-iff-mul-le, div-lt-iff-lt-mul, div-one}
 use native.Mathlib.Omega.{arith}
 use borrow.Author.Tests.{lt-ltb}
 use lib.Dec.{T, ltb→lt, lit<, lit≤}
 use lib.Pow.{pow-pos}
-use lib.Ieee.{Float, nan, inf, fin, up, down, size, binary32, fits, isNan, le, lt, eq, toBits, ofBits}
-use lib.Ieee.Bits.{ofBits-toBits, is-true}
+use lib.Ieee.{Float, nan, inf, fin, up, down, size, binary32, isNan, le, lt, eq, toBits, ofBits}
+use lib.Ieee.Bits.{is-true}
 use lib.Ieee.Digits.{size-le}
 use lib.Ieee.Fits.{and-l, and-r, up-pos, down-pos, kept-lt}
 use lib.Ieee.Scale.{finite}
-use lib.Ieee.Positive.{positive, num, den, between, le→cross, positive-of-value}
+use lib.Ieee.Positive.{positive, num, den, between, le→cross}
 use lib.ListN.{length, getD}
 use Rattle.float.specs.F32.{zero32}
 use Rattle.float.specs.Sqrt.{sqrtOf}
-use Rattle.float.specs.Patterns.{rootPattern, Rooted}
-use Rattle.float.proofs.Rooting.{pattern-value, at-normal}
-use Rattle.float.proofs.Quick.{no-subnormal}
+use Rattle.float.proofs.RootRange.{root-positive}
 use Rattle.float.specs.Normal.{smallestNormal, tenTo37, isNormal, allNormal}
 
 -- ---- the two ends
@@ -116,25 +114,6 @@ below-not-nan (inf s) y e = tt
 below-not-nan (fin s m d) y e = tt
 
 -- ---- its root
-pattern-positive : (a : ℕ) → 2 ^ 23 ≤ a → a < 255 * 2 ^ 23 → T (positive (ofBits binary32 a))
-pattern-positive a lo hi =
-    positive-of-value (ofBits binary32 a) ((2 ^ 23 + a % 2 ^ 23) * 2 ^ (a / 2 ^ 23 - 1)) (2 ^ 149) (pattern-value a (no-subnormal a lo) hi) (mul-pos (some a) (pow-pos (a / 2 ^ 23 - 1)))
-  where
-    some : (a : ℕ) → 0 < 2 ^ 23 + a % 2 ^ 23
-    some a = omega arith
-
-root-from : (m f : ℕ) → 126 ≤ f → 2 ^ 23 ≤ rootPattern m f
-unfolding rootPattern
-root-from m f h = more (f / 2) _ (omega arith)
-  where
-    more : (k y : ℕ) → 63 ≤ k → 2 ^ 23 ≤ k * 2 ^ 23 + y
-    more k y h = omega arith
-
-root-positive : (a : ℕ) → 2 ^ 23 ≤ a → a < 255 * 2 ^ 23 → T (positive (sqrtOf binary32 (ofBits binary32 a)))
-root-positive a lo hi =
-    let r : Rooted a (rootPattern (a % 2 ^ 23 + 2 ^ 23) (a / 2 ^ 23 + 125)) = at-normal a (no-subnormal a lo) hi in
-    subst (λ (y : Float). T (positive y)) (r .1) (pattern-positive (rootPattern (a % 2 ^ 23 + 2 ^ 23) (a / 2 ^ 23 + 125)) (root-from (a % 2 ^ 23 + 2 ^ 23) (a / 2 ^ 23 + 125) (omega arith)) (r .0))
-
 above-zero : (x : Float) → T (positive x) → (finite x ≡ true) × (lt zero32 x ≡ true)
 unfolding lt ofBits
 above-zero nan p = absurd p
@@ -142,10 +121,8 @@ above-zero (inf s) p = absurd p
 above-zero (fin true m e) p = absurd p
 above-zero (fin false m e) p = (refl, lt-ltb (0 * 1 * down e) (m * up e * 1) (subst (λ (y : ℕ). y < m * up e * 1) (sym (zero-mul (down e))) (mul-pos (mul-pos (ltb→lt 0 m p) (up-pos e)) (pow-pos 0))))
 
-pub normal-root : (x : Float) → T (fits binary32 x) → isNormal x ≡ true → (finite (sqrtOf binary32 x) ≡ true) × (lt zero32 (sqrtOf binary32 x) ≡ true)
-normal-root x f h =
-    let b = normal-bits x h in
-    above-zero (sqrtOf binary32 x) (subst (λ (y : Float). T (positive (sqrtOf binary32 y))) (ofBits-toBits binary32 x f) (root-positive (toBits binary32 x) (b .0) (b .1)))
+pub normal-root : (x : Float) → isNormal x ≡ true → (finite (sqrtOf binary32 x) ≡ true) × (lt zero32 (sqrtOf binary32 x) ≡ true)
+normal-root x h = above-zero (sqrtOf binary32 x) (root-positive x (is-positive x h) (from x h) (upto x h))
 
 -- ---- the numbers of a block
 pub each-normal : (l : List Float) → allNormal l ≡ true → (i : ℕ) → i < length l → isNormal (getD l i nan) ≡ true

@@ -1,7 +1,6 @@
 -- `float::block::root_by` meets its contract. Assumes nothing.
 use mathlib.Core.Path.{sym, ap, _∙_, subst}
 use Prim.Native.Nat.{_+_, _*_, _/_, _^_, _≤_, _<_}
-use native.Mathlib.Nat.{le-of-lt}
 use native.Mathlib.Omega.{arith}
 use lib.Dec.{T}
 use lib.Ieee.{binary32, toBits}
@@ -33,7 +32,7 @@ add-result-2 : tie.Need-add-result-2
 add-result-2 c = omega (arith, rooted c .0)
 
 float-from-bits-result : tie.Need-float-from-bits-result
-float-from-bits-result c = number-ok _ (le-of-lt (rooted c .0))
+float-from-bits-result c = number-ok _ (rooted c .0)
 
 returns : tie.Need-returns
 returns c = rooted c .1 ∙ ap (sqrtOf binary32) (ofBits-toBits binary32 (c .args .x) (subst T (sym (c .good .0 .1)) tt))
