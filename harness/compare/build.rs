@@ -4,7 +4,7 @@
 use std::{env, path::PathBuf};
 
 const DEFAULT_FOLDER: &str = "../../target/staticlib";
-const LIBRARIES: [&str; 7] = [
+const LIBRARIES: [&str; 8] = [
     "entries",
     "track_entries",
     "byte_entries",
@@ -12,6 +12,7 @@ const LIBRARIES: [&str; 7] = [
     "mesh_entries",
     "skin_entries",
     "bake_entries",
+    "byte_bake",
 ];
 
 fn main() {

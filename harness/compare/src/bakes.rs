@@ -1,8 +1,9 @@
-//! The bake of one node: `bake_floats` on scenes of every sort. Where a track
+//! The bake of one node: `bake_floats` and `bake` on scenes of every sort. Where a track
 //! turns between its keys, which is compared by a rule of its own (pose.rs), the
 //! Rust starts from the port's rotations.
 
 pub mod case;
+mod on_bytes;
 mod sorts;
 pub mod speed;
 
@@ -27,6 +28,8 @@ const LARGE_SCENES: usize = 50;
 /// Of the long run, which has other scenes.
 const LONG_SMALL_SCENES: usize = 10_000_000;
 const LONG_LARGE_SCENES: usize = 5_000;
+/// Scenes that are also lent to `bake` in slices as long as it decodes, and longer.
+const LONG_SLICES: usize = 20;
 /// Of a scene, at most.
 const BAKED_NODES: u32 = 8;
 /// The word of a node that marks its mesh.
@@ -74,6 +77,7 @@ struct Comparison {
     sorts: Met<{ SORTS.len() }>,
     short: Met<{ LENT.len() }>,
     refused: Met<{ NUMBERS.len() }>,
+    on_bytes: on_bytes::Comparison,
 }
 
 impl Comparison {
@@ -84,6 +88,7 @@ impl Comparison {
             sorts: Met::new(SORTS),
             short: Met::new(LENT),
             refused: Met::new(["1", "2", "3", "5", "6", "7", "8", "9", "10"]),
+            on_bytes: on_bytes::Comparison::new(),
         }
     }
 
@@ -110,6 +115,9 @@ impl Comparison {
             self.count_nodes(&case, rng);
             if !scene.nodes.is_empty() {
                 self.count_faulty(&case);
+            }
+            if scenes < LONG_SLICES {
+                self.on_bytes.count_at_limits(&case, 0);
             }
             scenes += 1;
         }
@@ -152,9 +160,13 @@ impl Comparison {
     fn count(&mut self, case: &Case, node: u32, lens: Lens) {
         let (rust, port) = (case.expected(node, lens), case.bake(node, lens));
         match NUMBERS.iter().position(|number| *number == rust.0.number) {
-            Some(k) => self.refused.count(k),
+            Some(k) => {
+                self.refused.count(k);
+                self.on_bytes.count_refused(case, node, lens);
+            }
             None => {
                 self.accepted.count(0);
+                self.on_bytes.count(case, node, lens);
                 self.sorts.count_all(&sorts::sorts(case, node));
             }
         }
@@ -179,6 +191,7 @@ impl Comparison {
             self.sorts.report(),
             self.short.report(),
             self.refused.report(),
+            self.on_bytes.report(),
         ];
         !all.contains(&false)
     }

@@ -20,6 +20,7 @@
 mod bakes;
 mod graph;
 mod headers;
+mod in_bytes;
 mod leaves;
 mod list;
 mod matrices;

@@ -6,18 +6,13 @@
 
 use super::case::{Case, Room, LENT};
 use crate::{
-    port::{self, ByteTables, Placed, Tables},
+    in_bytes::{
+        at_limits, bits, encoded, is_over, put, Encoded, LENT_BYTE, OVER_LIMIT, WALK_LIMIT,
+    },
+    port::{self, Placed},
     rng::Rng,
     tally::{Met, Tally},
 };
-
-/// The most of `words`, and of each slice of floats, that the port decodes.
-const WORD_LIMIT: usize = 32_768;
-const FLOAT_LIMIT: usize = 65_536;
-/// The most words of walk room that are used.
-const WALK_LIMIT: usize = 18_432;
-const OVER_LIMIT: u32 = 2;
-const LENT_BYTE: u8 = 0xa5;
 
 pub struct Comparison {
     tally: Tally<(usize, usize)>,
@@ -46,35 +41,10 @@ impl Comparison {
 
     /// Each slice of the scene just short enough, and not.
     pub fn count_at_limits(&mut self, case: &Case, rng: &mut Rng) {
-        let Tables { words, floats, .. } = case.lent;
-        let mut words = words.to_vec();
-        let mut floats = floats.to_vec();
-        for more in 0..2 {
-            words.resize(WORD_LIMIT + more, 7);
-            floats.resize(FLOAT_LIMIT + more, 0.5);
-            let all = [
-                Tables {
-                    words: &words,
-                    ..case.lent
-                },
-                Tables {
-                    floats: &floats,
-                    ..case.lent
-                },
-                Tables {
-                    node_weights: &floats,
-                    ..case.lent
-                },
-                Tables {
-                    mesh_weights: &floats,
-                    ..case.lent
-                },
-            ];
-            for lent in all {
-                let case = Case { lent, ..*case };
-                self.count(&case, case.lens(), rng);
-            }
-        }
+        at_limits(case.lent, |lent| {
+            let case = Case { lent, ..*case };
+            self.count(&case, case.lens(), rng);
+        });
     }
 
     fn met_answer(&mut self, answer: &Answer, is_over: bool, odd: [usize; LENT.len()]) {
@@ -106,13 +76,6 @@ struct Answer {
     walk: Vec<u8>,
     places: Vec<u8>,
     worlds: Vec<u8>,
-}
-
-fn is_over(lent: &Tables) -> bool {
-    lent.words.len() > WORD_LIMIT
-        || [lent.floats, lent.node_weights, lent.mesh_weights]
-            .iter()
-            .any(|floats| floats.len() > FLOAT_LIMIT)
 }
 
 fn of_floats(case: &Case, lens: [usize; LENT.len()], rooms: [Vec<u8>; 3]) -> Answer {
@@ -149,45 +112,22 @@ fn of_bytes(
     odd: [usize; LENT.len()],
     rooms: [Vec<u8>; 3],
 ) -> Answer {
-    let Tables {
-        words,
-        floats,
-        node_weights,
-        mesh_weights,
-        header,
-    } = case.lent;
-    let lent = ByteTables {
-        words: &encoded(words.iter().copied(), odd[0]),
-        floats: &encoded(bits(floats), odd[1]),
-        node_weights: &encoded(bits(node_weights), odd[2]),
-        mesh_weights: &encoded(bits(mesh_weights), odd[3]),
-        header,
-    };
+    let scene = Encoded::of(&case.lent, [odd[0], odd[1], odd[2], odd[3]]);
     let marks = encoded(case.posed.marks[..lens[1]].iter().copied(), odd[1]);
     let slots = encoded(bits(&case.posed.slots[..lens[2]]), odd[2]);
     let [mut walk, mut places, mut worlds] = rooms;
-    let told = port::place(&lent, &marks, &slots, &mut walk, &mut places, &mut worlds);
+    let told = port::place(
+        &scene.lent(),
+        &marks,
+        &slots,
+        &mut walk,
+        &mut places,
+        &mut worlds,
+    );
     Answer {
         told,
         walk,
         places,
         worlds,
-    }
-}
-
-fn bits(floats: &[f32]) -> impl Iterator<Item = u32> + '_ {
-    floats.iter().map(|x| x.to_bits())
-}
-
-/// With so many bytes past the last word.
-pub fn encoded(words: impl Iterator<Item = u32>, odd: usize) -> Vec<u8> {
-    let mut bytes: Vec<u8> = words.flat_map(u32::to_le_bytes).collect();
-    bytes.resize(bytes.len() + odd, LENT_BYTE);
-    bytes
-}
-
-fn put(words: &[u32], bytes: &mut [u8]) {
-    for (bytes, word) in bytes.chunks_exact_mut(4).zip(words) {
-        bytes.copy_from_slice(&word.to_le_bytes());
     }
 }

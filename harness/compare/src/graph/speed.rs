@@ -1,9 +1,10 @@
 //! The speed of both walks on trees, per node.
 
-use super::{answers::Answers, no_animation, on_bytes::encoded, poses::Posed, scenes::tree};
+use super::{answers::Answers, no_animation, poses::Posed, scenes::tree};
 use crate::{
+    in_bytes::{bits, encoded, Encoded},
     measure::side_by_side,
-    port::{self, ByteTables, Placed},
+    port::{self, Placed},
     rng::Rng,
     tables::{
         build::lend,
@@ -59,17 +60,10 @@ fn measure_bytes(scene: &Scene3D, lent: &Lent) {
     let posed = Posed::plain(&mut Rng::new(2), nodes);
     let pose = posed.of_rust(nodes);
     let taken = Answers::of(scene, &pose).taken;
-    let bytes = |floats: &[f32]| encoded(floats.iter().map(|x| x.to_bits()), 0);
-    let (words, floats) = (encoded(lent.words.iter().copied(), 0), bytes(&lent.floats));
-    let weights = [&lent.node_weights, &lent.mesh_weights].map(|floats| bytes(floats));
-    let lent = ByteTables {
-        words: &words,
-        floats: &floats,
-        node_weights: &weights[0],
-        mesh_weights: &weights[1],
-        header: lent.header,
-    };
-    let (marks, slots) = (encoded(posed.marks.iter().copied(), 0), bytes(&posed.slots));
+    let lent = Encoded::of(&lent.of_port(), [0; 4]);
+    let lent = lent.lent();
+    let marks = encoded(posed.marks.iter().copied(), 0);
+    let slots = encoded(bits(&posed.slots), 0);
     let mut walk = vec![0; 8 * taken];
     let (mut places, mut worlds) = (vec![0; 4 * nodes], vec![0; 64 * nodes]);
     let mut place = || {
