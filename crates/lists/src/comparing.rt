@@ -3,7 +3,6 @@ use crate::Agreement;
 use crate::reading::read_float;
 use crate::reading::read_word;
 ghost use mathlib.Core.Path.{_≡_};
-ghost use Prim.Native.Nat.{_<_};
 ghost use Rattle.lists.specs.Near.{nearBy};
 
 // Whether two floats have equal bits, or are less than `most` apart.

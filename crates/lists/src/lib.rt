@@ -1,5 +1,5 @@
 // What the programs share that replay lists of the Rust's answers: fields of hexadecimal digits on standard input, counts
-// of answers, and floats in print.
+// of answers, and floats in print. No contract can say what is read or written; functions that do so are safe and end.
 mod comparing;
 mod counting;
 mod fields;

@@ -69,6 +69,9 @@ pub fn replay<'a>(
     let vertices = lists::read_word();
     print_answer(outcome.time, outcome.answer);
     print_agreement(outcome.floats);
+    if !outcome.told {
+        text(b"    the answer differs\n");
+    }
     print_vertices(vertices, outcome);
     outcome.told && outcome.floats.differ == 0
 }

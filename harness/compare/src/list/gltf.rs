@@ -32,12 +32,6 @@ pub fn simple_skin() -> io::Result<Sample> {
     let [shape, influences, binds, turn] = &buffers[..] else {
         return Err(io::Error::other("simple_skin.gltf: four buffers"));
     };
-    let primitive = Primitive {
-        positions: shape.rows(48, 12, 10),
-        joints: Some(influences.rows_of(0, 16, 10, |b| u16::from_le_bytes(b).into())),
-        weights: Some(influences.rows(160, 16, 10)),
-        ..Primitive::default()
-    };
     let scene = Scene3D {
         nodes: vec![
             Node {
@@ -53,7 +47,7 @@ pub fn simple_skin() -> io::Result<Sample> {
             node([0.0; 3], UNTURNED, [1.0; 3]),
         ],
         roots: vec![NodeId(0)],
-        meshes: vec![mesh(primitive, Vec::new())],
+        meshes: vec![mesh(strip(shape, influences), Vec::new())],
         skins: vec![Skin::new(SkeletonId(0))],
         skeletons: vec![Skeleton {
             name: None,
@@ -65,6 +59,16 @@ pub fn simple_skin() -> io::Result<Sample> {
     let values = AnimationValues::Quat(turn.rows(48, 16, 12));
     let animation = linear(2, AnimationProperty::Rotation, turn.numbers(0, 12), values);
     Ok(Sample { scene, animation })
+}
+
+/// Two joints move its ten vertices.
+fn strip(shape: &Buffer, influences: &Buffer) -> Primitive {
+    Primitive {
+        positions: shape.rows(48, 12, 10),
+        joints: Some(influences.rows_of(0, 16, 10, |b| u16::from_le_bytes(b).into())),
+        weights: Some(influences.rows(160, 16, 10)),
+        ..Primitive::default()
+    }
 }
 
 /// One node, whose mesh is blended by the track.
@@ -83,6 +87,7 @@ pub fn animated_morph_cube() -> io::Result<Sample> {
         targets: vec![target(960, 1248, 1536), target(1824, 2112, 2400)],
         ..Primitive::default()
     };
+    #[allow(clippy::approx_constant)] // as the file has them
     let rotation = [0.0, 0.7071067, -0.7071068, 0.0];
     let scene = Scene3D {
         nodes: vec![Node {
