@@ -65,7 +65,7 @@ pub flipped-length : (v : Vector) → length v ≡ 4 → length (flipped v) ≡ 
 unfolding flipped
 flipped-length v h = omega (arith, length-append (take 3 v) (neg (at v 3) ∷ []), length-take 3 v)
 
-by-four : (P : Vector → Type 0) → ((x y z h : Float) → P (x ∷ y ∷ z ∷ h ∷ [])) → (v : Vector) → length v ≡ 4 → P v
+pub by-four : (P : Vector → Type 0) → ((x y z h : Float) → P (x ∷ y ∷ z ∷ h ∷ [])) → (v : Vector) → length v ≡ 4 → P v
 by-four P k [] e = absurd (omega arith)
 by-four P k (x ∷ []) e = absurd (omega arith)
 by-four P k (x ∷ y ∷ []) e = absurd (omega arith)

@@ -1,9 +1,11 @@
 -- Vertices that are moved by a matrix, in slices. Assumes nothing.
-use mathlib.Core.Path.{_≡_, refl, sym, ap, _∙_}
+use mathlib.Core.Path.{_≡_, refl, sym, ap, subst, _∙_}
 use mathlib.Core.Bool.{Bool, true, false}
 use mathlib.Core.Option.{Option, none, some}
 use mathlib.Core.List.{List}
-use Prim.Native.Nat.{ℕ, _+_, _/_, _<_}
+use Prim.Native.Nat.{ℕ, zero, suc, _+_, _-_, _*_, _/_, _≤_, _<_}
+use native.Mathlib.Nat.{div-mul-le-self}
+use native.Mathlib.Omega.{arith}
 use borrow.Author.Tests.{lt-ltb, le-ltb}
 use lib.Dec.{ltb}
 use lib.Ieee.{Float, lt}
@@ -19,8 +21,10 @@ use Rattle.scene.specs.Values.{linearOf}
 use Rattle.scene.specs.declared.Linear.{Linear}
 use Rattle.transform.specs.declared.influences.Blend.{Blend}
 use Rattle.transform.specs.Rows.{tangentBy, rowChanged, firstRows}
-use Rattle.transform.specs.Blending.{blended, Turned, Skinned}
-use Rattle.transform.proofs.RowSteps.{row-kept, next-done, rows-done}
+use Rattle.transform.specs.Blocks.{rowsFrom}
+use Rattle.transform.specs.Blending.{blended, Turned, Skinned, MovedFrom, FirstMoved}
+use Rattle.transform.proofs.RowSteps.{row-kept, rows-done}
+use Rattle.transform.proofs.Blocked.{rows-joined, next-from, next-block}
 use Rattle.transform.proofs.RowLengths.{normal-length, tangent-length, optional-length}
 
 -- tangents by the linear part l of m and its determinant d
@@ -28,7 +32,7 @@ pub tangent-by : (m : Matrix) (l : List Float) (d : Float) → l ≡ linear m �
 unfolding tangentBy turnedTangent
 tangent-by m l d p q = (λ j v. tangentBy (p j) (lt (q j) zero32) v)
 
-turned-length : (m : Matrix) (v : Vector) → length v ≡ 4 → length (turnedTangent m v) ≡ 4
+pub turned-length : (m : Matrix) (v : Vector) → length v ≡ 4 → length (turnedTangent m v) ≡ 4
 unfolding tangentBy turnedTangent
 turned-length m v h = tangent-length (linear m) (lt (determinant m) zero32) v h
 
@@ -60,49 +64,83 @@ module _ (b : Blend) (v : ℕ) (lp ln lt : List Float) where
       }
 
 -- ---- all vertices
--- the matrix of vertex v of n
-abbrev ofVertex : List Matrix → List (List ℕ) → List Vector → ℕ → ℕ → Option Matrix
-ofVertex palette joints weights n v = pick (ltb v n) (jointMatrix palette joints weights v) none
+-- the first n rows by two rules that agree on them
+first-alike : (w : ℕ) (f g : ℕ → Vector → Vector) (l : List Float) (n : ℕ) → ((i : ℕ) → i < n → f i ≡ g i) → firstRows w f l n ≡ firstRows w g l n
+unfolding firstRows
+first-alike w f g l zero h = refl
+first-alike w f g l (suc n) h = (λ j. rowChanged w (h n (omega arith) j) n (first-alike w f g l n (λ i b. h i (omega arith)) j))
 
--- the first v of n vertices are moved
-pub record FirstMoved (palette : List Matrix) (joints : List (List ℕ)) (weights : List Vector) (n : ℕ) (lp ln lt : List Float) (v : ℕ) (p o t : List Float) : Type 0 where
-  pub positions : p ≡ firstRows 3 (λ i. byMatrix affinePoint (ofVertex palette joints weights n i)) lp v
-  pub normals : o ≡ firstRows 3 (λ i. byMatrix (λ m y. turnedNormal (inverseTranspose m) y) (ofVertex palette joints weights n i)) ln v
-  pub tangents : t ≡ firstRows 4 (λ i. byMatrix turnedTangent (ofVertex palette joints weights n i)) lt v
+module _ (palette : List Matrix) (joints : List (List ℕ)) (weights : List Vector) where
+  abbrev jointed : ℕ → Option Matrix
+  jointed i = jointMatrix palette joints weights i
 
-module _ (palette : List Matrix) (joints : List (List ℕ)) (weights : List Vector) (n : ℕ) (lp ln lt : List Float) where
-  abbrev matrixAt : ℕ → Option Matrix
-  matrixAt i = ofVertex palette joints weights n i
+  -- one vertex more
+  module _ (k n : ℕ) (m : Option Matrix) (e : m ≡ jointed (k + n)) where
+    pub next-row : (w : ℕ) (f : Matrix → Vector → Vector) (l here left : List Float) → left ≡ rowChanged w (byMatrix f m) (k + n) here → here ≡ rowsFrom w (λ i. byMatrix f (jointed (k + i))) k l n
+        → left ≡ rowsFrom w (λ i. byMatrix f (jointed (k + i))) k l (n + 1)
+    next-row w f l here left s h = next-from w (λ i. byMatrix f (jointed (k + i))) k l here left n (s ∙ ap (λ (x : Option Matrix). rowChanged w (byMatrix f x) (k + n) here) e) h
 
-  pub none-moved : FirstMoved palette joints weights n lp ln lt 0 lp ln lt
+    pub next-vertex : (lp p p′ ln o o′ lt t t′ : List Float) → MovedFrom palette joints weights k n lp p ln o lt t → Skinned m (k + n) p p′ o o′ t t′ → MovedFrom palette joints weights k (n + 1) lp p′ ln o′ lt t′
+    next-vertex lp p p′ ln o o′ lt t t′ f s = record {
+      positions = next-row 3 affinePoint lp p p′ (s .positions) (f .positions);
+      normals = next-row 3 (λ m y. turnedNormal (inverseTranspose m) y) ln o o′ (s .normals) (f .normals);
+      tangents = next-row 4 turnedTangent lt t t′ (s .tangents) (f .tangents);
+    }
+
+  pub none-from : (k : ℕ) (lp ln lt : List Float) → MovedFrom palette joints weights k 0 lp lp ln ln lt lt
+  unfolding rowsFrom
+  none-from k lp ln lt = record { positions = refl; normals = refl; tangents = refl }
+
+  pub none-first : (lp ln lt : List Float) → FirstMoved palette joints weights 0 lp lp ln ln lt lt
   unfolding firstRows
-  none-moved = record { positions = refl; normals = refl; tangents = refl }
+  none-first lp ln lt = record { positions = refl; normals = refl; tangents = refl }
 
-  pub next-moved : (v : ℕ) (m : Option Matrix) (p p′ o o′ t t′ : List Float) → v < n → m ≡ jointMatrix palette joints weights v
-      → FirstMoved palette joints weights n lp ln lt v p o t → Skinned m v p p′ o o′ t t′ → FirstMoved palette joints weights n lp ln lt (v + 1) p′ o′ t′
-  next-moved v m p p′ o o′ t t′ h e f s =
-      let q : m ≡ matrixAt v = e ∙ sym (ap (λ (b : Bool). pick b (jointMatrix palette joints weights v) none) (lt-ltb v n h)) in
-      record {
-        positions = next-done 3 (λ i. byMatrix affinePoint (matrixAt i)) lp p p′ v (s .positions ∙ ap (λ (x : Option Matrix). rowChanged 3 (byMatrix affinePoint x) v p) q) (f .positions);
-        normals = next-done 3 (λ i. byMatrix (λ m y. turnedNormal (inverseTranspose m) y) (matrixAt i)) ln o o′ v (s .normals ∙ ap (λ (x : Option Matrix). rowChanged 3 (byMatrix (λ m y. turnedNormal (inverseTranspose m) y) x) v o) q) (f .normals);
-        tangents = next-done 4 (λ i. byMatrix turnedTangent (matrixAt i)) lt t t′ v (s .tangents ∙ ap (λ (x : Option Matrix). rowChanged 4 (byMatrix turnedTangent x) v t) q) (f .tangents);
-      }
+  pub next-sixteen : (b : ℕ) (lp p p′ ln o o′ lt t t′ : List Float) → FirstMoved palette joints weights (b * 16) lp p ln o lt t → MovedFrom palette joints weights (b * 16) 16 p p′ o o′ t t′
+      → FirstMoved palette joints weights ((b + 1) * 16) lp p′ ln o′ lt t′
+  next-sixteen b lp p p′ ln o o′ lt t t′ f s = record {
+    positions = next-block 3 (λ i. byMatrix affinePoint (jointed i)) lp p p′ b (s .positions) (f .positions);
+    normals = next-block 3 (λ i. byMatrix (λ m y. turnedNormal (inverseTranspose m) y) (jointed i)) ln o o′ b (s .normals) (f .normals);
+    tangents = next-block 4 (λ i. byMatrix turnedTangent (jointed i)) lt t t′ b (s .tangents) (f .tangents);
+  }
 
-  -- an attribute in rows of w, of which each is moved by f
-  attribute-done : (w : ℕ) (f : Matrix → Vector → Vector) (l : List Float) → ((m : Matrix) (x : Vector) → length x ≡ w → length (f m x) ≡ w)
-      → firstRows w (λ i. byMatrix f (matrixAt i)) l n ≡ overRows w (indexed 0 (λ i x. byMatrix f (matrixAt i) x) (rowsIn w l)) l
-  attribute-done w f l keeps =
-      rows-done w (λ i. byMatrix f (matrixAt i)) l
-      (λ i h. let e = row-length w l i h in optional-length w f (matrixAt i) (row w l i) (λ m. keeps m (row w l i) e) e)
-      n
-      (λ i h g. ap (λ (b : Bool). byMatrix f (pick b (jointMatrix palette joints weights i) none) (row w l i)) (le-ltb i n h))
+  -- k of n vertices, then the others
+  module _ (k n : ℕ) (h : k ≤ n) where
+    -- the matrix of vertex v; entries past the last position have none
+    abbrev ofVertex : ℕ → ℕ → Option Matrix
+    ofVertex c v = pick (ltb v c) (jointed v) none
 
-  pub all-moved : (p o t : List Float) → n ≡ length lp / 3 → FirstMoved palette joints weights n lp ln lt n p o t → Reshaped (skinned palette joints weights (attributesIn lp ln lt)) lp p ln o lt t
-  unfolding skinned
-  all-moved p o t e s =
-      let q : n ≡ length (rowsIn 3 lp) = e ∙ sym (row-count 3 lp) in
-      record {
-        positions = s .positions ∙ attribute-done 3 affinePoint lp (λ m x h. refl) ∙ (λ j. overRows 3 (indexed 0 (λ i x. byMatrix affinePoint (ofVertex palette joints weights (q j) i) x) (rowsIn 3 lp)) lp);
-        normals = s .normals ∙ attribute-done 3 (λ m y. turnedNormal (inverseTranspose m) y) ln (λ m x h. normal-length (inverseTranspose m) x h) ∙ (λ j. overRows 3 (indexed 0 (λ i x. byMatrix (λ m y. turnedNormal (inverseTranspose m) y) (ofVertex palette joints weights (q j) i) x) (rowsIn 3 ln)) ln);
-        tangents = s .tangents ∙ attribute-done 4 turnedTangent lt turned-length ∙ (λ j. overRows 4 (indexed 0 (λ i x. byMatrix turnedTangent (ofVertex palette joints weights (q j) i) x) (rowsIn 4 lt)) lt);
-      }
+    -- an attribute in rows of w, of which each is moved by f
+    attribute-done : (w : ℕ) (f : Matrix → Vector → Vector) (l here left : List Float) → ((m : Matrix) (x : Vector) → length x ≡ w → length (f m x) ≡ w)
+        → here ≡ firstRows w (λ i. byMatrix f (jointed i)) l k → left ≡ rowsFrom w (λ i. byMatrix f (jointed (k + i))) k here (n - k)
+        → left ≡ overRows w (indexed 0 (λ i x. byMatrix f (ofVertex n i) x) (rowsIn w l)) l
+    attribute-done w f l here left keeps s e =
+        let c : k + (n - k) ≡ n = omega arith in
+        e
+        ∙ ap (λ (x : List Float). rowsFrom w (λ i. byMatrix f (jointed (k + i))) k x (n - k)) s
+        ∙ rows-joined w (λ i. byMatrix f (jointed i)) l k (n - k)
+        ∙ ap (firstRows w (λ i. byMatrix f (jointed i)) l) c
+        ∙ first-alike w (λ i. byMatrix f (jointed i)) (λ i. byMatrix f (ofVertex n i)) l n (λ i b. ap (λ (x : Bool). byMatrix f (pick x (jointed i) none)) (sym (lt-ltb i n b)))
+        ∙ rows-done w (λ i. byMatrix f (ofVertex n i)) l
+        (λ i b. let e = row-length w l i b in optional-length w f (ofVertex n i) (row w l i) (λ m. keeps m (row w l i) e) e)
+        n
+        (λ i b g. ap (λ (x : Bool). byMatrix f (pick x (jointed i) none) (row w l i)) (le-ltb i n b))
+
+    all-moved : (lp p p′ ln o o′ lt t t′ : List Float) → n ≡ length lp / 3 → FirstMoved palette joints weights k lp p ln o lt t → MovedFrom palette joints weights k (n - k) p p′ o o′ t t′
+        → Reshaped (skinned palette joints weights (attributesIn lp ln lt)) lp p′ ln o′ lt t′
+    unfolding skinned
+    all-moved lp p p′ ln o o′ lt t t′ e f s =
+        let q : n ≡ length (rowsIn 3 lp) = e ∙ sym (row-count 3 lp) in
+        record {
+          positions = attribute-done 3 affinePoint lp p p′ (λ m x h. refl) (f .positions) (s .positions) ∙ (λ j. overRows 3 (indexed 0 (λ i x. byMatrix affinePoint (ofVertex (q j) i) x) (rowsIn 3 lp)) lp);
+          normals =
+              attribute-done 3 (λ m y. turnedNormal (inverseTranspose m) y) ln o o′ (λ m x h. normal-length (inverseTranspose m) x h) (f .normals) (s .normals)
+              ∙ (λ j. overRows 3 (indexed 0 (λ i x. byMatrix (λ m y. turnedNormal (inverseTranspose m) y) (ofVertex (q j) i) x) (rowsIn 3 ln)) ln);
+          tangents = attribute-done 4 turnedTangent lt t t′ turned-length (f .tangents) (s .tangents) ∙ (λ j. overRows 4 (indexed 0 (λ i x. byMatrix turnedTangent (ofVertex (q j) i) x) (rowsIn 4 lt)) lt);
+        }
+
+  -- whole blocks, then the rest
+  pub blocks-moved : (lp p p′ ln o o′ lt t t′ : List Float) → length p ≡ length lp → FirstMoved palette joints weights (length lp / 3 / 16 * 16) lp p ln o lt t
+      → MovedFrom palette joints weights (length p / 3 / 16 * 16) (length p / 3 - length p / 3 / 16 * 16) p p′ o o′ t t′ → Reshaped (skinned palette joints weights (attributesIn lp ln lt)) lp p′ ln o′ lt t′
+  blocks-moved lp p p′ ln o o′ lt t t′ e f s =
+      let n = length lp / 3 in
+      all-moved (n / 16 * 16) n (div-mul-le-self n 16) lp p p′ ln o o′ lt t t′ refl f (subst (λ (x : ℕ). MovedFrom palette joints weights (x / 3 / 16 * 16) (x / 3 - x / 3 / 16 * 16) p p′ o o′ t t′) e s)

@@ -2,16 +2,17 @@
 use mathlib.Core.Path.{_≡_}
 use mathlib.Core.Option.{Option, none, some}
 use mathlib.Core.List.{List, [], _∷_, _++_}
-use Prim.Native.Nat.{ℕ}
+use Prim.Native.Nat.{ℕ, _+_}
 use lib.Ieee.{Float}
 use lib.ListN.{replicate}
 use Rattle.float.specs.F32.{zero32}
 use Rattle.model.specs.Lists.{pick, foldl, isSome}
-use Rattle.model.specs.Vector.{_⊙_, _⊞_}
+use Rattle.model.specs.Vector.{Vector, _⊙_, _⊞_}
 use Rattle.model.specs.Matrix.{Matrix, inverseTranspose}
-use Rattle.model.specs.Vertices.{Influence, influences, mixture, byMatrix, affinePoint, turnedNormal, turnedTangent}
+use Rattle.model.specs.Vertices.{Influence, influences, mixture, jointMatrix, byMatrix, affinePoint, turnedNormal, turnedTangent}
 use Rattle.transform.specs.declared.influences.Blend.{Blend}
-use Rattle.transform.specs.Rows.{rowChanged}
+use Rattle.transform.specs.Rows.{rowChanged, firstRows}
+use Rattle.transform.specs.Blocks.{rowsFrom}
 
 -- the matrix, if an influence counted
 abbrev pub blended : Blend → Option Matrix
@@ -36,3 +37,15 @@ pub record Skinned (o : Option Matrix) (v : ℕ) (lentPositions leftPositions le
   pub positions : leftPositions ≡ rowChanged 3 (byMatrix affinePoint o) v lentPositions
   pub normals : leftNormals ≡ rowChanged 3 (byMatrix (λ m y. turnedNormal (inverseTranspose m) y) o) v lentNormals
   pub tangents : leftTangents ≡ rowChanged 4 (byMatrix turnedTangent o) v lentTangents
+
+-- n vertices from vertex k on after they are moved by the matrices of their joints
+pub record MovedFrom (palette : List Matrix) (joints : List (List ℕ)) (weights : List Vector) (k n : ℕ) (lentPositions leftPositions lentNormals leftNormals lentTangents leftTangents : List Float) : Type 0 where
+  pub positions : leftPositions ≡ rowsFrom 3 (λ i. byMatrix affinePoint (jointMatrix palette joints weights (k + i))) k lentPositions n
+  pub normals : leftNormals ≡ rowsFrom 3 (λ i. byMatrix (λ m y. turnedNormal (inverseTranspose m) y) (jointMatrix palette joints weights (k + i))) k lentNormals n
+  pub tangents : leftTangents ≡ rowsFrom 4 (λ i. byMatrix turnedTangent (jointMatrix palette joints weights (k + i))) k lentTangents n
+
+-- the first n
+pub record FirstMoved (palette : List Matrix) (joints : List (List ℕ)) (weights : List Vector) (n : ℕ) (lentPositions leftPositions lentNormals leftNormals lentTangents leftTangents : List Float) : Type 0 where
+  pub positions : leftPositions ≡ firstRows 3 (λ i. byMatrix affinePoint (jointMatrix palette joints weights i)) lentPositions n
+  pub normals : leftNormals ≡ firstRows 3 (λ i. byMatrix (λ m y. turnedNormal (inverseTranspose m) y) (jointMatrix palette joints weights i)) lentNormals n
+  pub tangents : leftTangents ≡ firstRows 4 (λ i. byMatrix turnedTangent (jointMatrix palette joints weights i)) lentTangents n

@@ -1,11 +1,11 @@
 -- Directions that begin the rows of a slice, turned in blocks of sixteen. Definitions only.
+use mathlib.Core.Path.{_≡_}
 use mathlib.Core.List.{List, [], _∷_, _++_}
-use Prim.Native.Nat.{ℕ, zero, suc, _+_, _*_}
+use Prim.Native.Nat.{ℕ, zero, suc, _+_, _<_}
 use lib.Ieee.{Float, neg}
 use lib.ListN.{take, drop}
-use Rattle.model.specs.Lists.{tabulate, part}
-use Rattle.model.specs.Vector.{Vector, at, dot, norm}
-use Rattle.model.specs.Matrix.{turned}
+use Rattle.model.specs.Lists.{tabulate, row, orElse}
+use Rattle.model.specs.Vector.{Vector, at, dot, norm, normalized}
 use Rattle.model.specs.Vertices.{turnedUnit}
 use Rattle.transform.specs.Rows.{rowChanged}
 
@@ -13,21 +13,30 @@ use Rattle.transform.specs.Rows.{rowChanged}
 unfoldable pub xyzTurned : List Float → Vector → Vector
 xyzTurned l v = turnedUnit l (take 3 v) ++ drop 3 v
 
+-- a row that begins with x instead
+unfoldable pub begun : Vector → Vector → Vector
+begun x v = x ++ drop 3 v
+
+-- with the direction d divided by its length, if it has one
+unfoldable pub unitOver : Vector → Vector → Vector
+unitOver d v = begun (orElse (normalized d) (take 3 v)) v
+
 -- a tangent with the other handedness
 unfoldable pub flipped : Vector → Vector
 flipped v = take 3 v ++ (neg (at v 3) ∷ [])
 
--- a slice with n rows from row k on changed, one after the other
-unfoldable pub rowsFrom : ℕ → (Vector → Vector) → ℕ → List Float → ℕ → List Float
+-- a slice with n rows from row k on changed, row k + i by f i, one after the other
+unfoldable pub rowsFrom : ℕ → (ℕ → Vector → Vector) → ℕ → List Float → ℕ → List Float
 rowsFrom w f k l zero = l
-rowsFrom w f k l (suc n) = rowChanged w f (k + n) (rowsFrom w f k l n)
+rowsFrom w f k l (suc n) = rowChanged w (f n) (k + n) (rowsFrom w f k l n)
 
--- a direction by a linear part: the square of its length, and its length
-abbrev pub squareOf : List Float → Vector → Float
-squareOf l v = dot (turned l v) (turned l v)
+-- the first n of the vectors that lie in d, three floats each, are those of f
+pub record Packed (n : ℕ) (f : ℕ → Vector) (d : List Float) : Type 0 where
+  pub each : (i : ℕ) → i < n → row 3 d i ≡ f i
 
-unfoldable pub squaresFrom : ℕ → List Float → List Float → ℕ → List Float
-squaresFrom w l s k = tabulate 16 (λ i. squareOf l (part s ((k + i) * w) 3))
+-- the squares of the lengths of sixteen such vectors, and the lengths
+unfoldable pub squaresOf : List Float → List Float
+squaresOf d = tabulate 16 (λ i. dot (row 3 d i) (row 3 d i))
 
-unfoldable pub lengthsFrom : ℕ → List Float → List Float → ℕ → List Float
-lengthsFrom w l s k = tabulate 16 (λ i. norm (turned l (part s ((k + i) * w) 3)))
+unfoldable pub lengthsOf : List Float → List Float
+lengthsOf d = tabulate 16 (λ i. norm (row 3 d i))

@@ -1,3 +1,4 @@
 pub mod Rows
-pub mod Blending
 pub mod Blocks
+pub mod Blending
+pub mod Holding

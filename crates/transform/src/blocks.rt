@@ -1,110 +1,102 @@
 // Directions in rows of three or more floats, turned in blocks of sixteen: the roots of a block are taken together, which is
 // faster than one after each row.
+use crate::packed::Directions;
+use crate::packed::directions_at;
+use crate::packed::divided;
+use crate::packed::squares;
+use crate::packed::turned;
+use crate::packed::units;
 use crate::rows::load3;
 use crate::rows::store3;
+use float::Roots;
 use scene::Mat3;
 use scene::Vec3;
 ghost use mathlib.Core.Path.{_≡_};
 ghost use mathlib.Core.List.{map};
 ghost use Prim.Native.Nat.{_+_, _-_, _*_, _/_, _≤_, _<_};
-ghost use lib.Ieee.{binary32};
 ghost use lib.ListN.{length};
-ghost use lib.Seq.{paste};
-ghost use Rattle.float.specs.Sqrt.{sqrtOf};
-ghost use Rattle.model.specs.Lists.{part, rowsIn};
-ghost use Rattle.model.specs.Vector.{dot, norm};
-ghost use Rattle.model.specs.Matrix.{turned};
-ghost use Rattle.model.specs.Vertices.{turnedUnit};
+ghost use Rattle.model.specs.Lists.{orElse, row, rowsIn};
+ghost use Rattle.model.specs.Vector.{norm, normalized};
 ghost use Rattle.model.specs.Attributes.{overRows};
 ghost use Rattle.scene.specs.Values.{vec3, mat3};
 ghost use Rattle.transform.specs.Rows.{rowChanged, firstRows};
-ghost use Rattle.transform.specs.Blocks.{xyzTurned, rowsFrom, squaresFrom, lengthsFrom};
+ghost use Rattle.transform.specs.Blocks.{xyzTurned, begun, unitOver, rowsFrom, lengthsOf};
 
-// A number for each row of a block.
-struct Block {
-    of: [f32; 16],
-}
-
-fn square(v: Vec3) -> f32
-    ensures { λ r. ⌜ r ≡ dot (vec3 v) (vec3 v) ⌝ }
+// The direction d divided by its length, which is given; v where there is no length to divide by.
+fn unit_or(d: Vec3, len: f32, v: Vec3) -> Vec3
+    requires { ⌜ len ≡ norm (vec3 d) ⌝ }
+    ensures { λ r. ⌜ vec3 r ≡ orElse (normalized (vec3 d)) (vec3 v) ⌝ }
 {
-    v.x * v.x + v.y * v.y + v.z * v.z
-}
-
-// The squares of the lengths that rows k to k + 15 have once turned by l.
-fn squares(l: Mat3, w: usize, s: &[f32], k: usize) -> Block
-    requires { ⌜ (3 ≤ w) × ((k + 16) * w ≤ length (now s)) ⌝ }
-    ensures { λ r. ⌜ r .of ≡ squaresFrom w (mat3 l) (now (s .entry)) k ⌝ }
-{
-    let mut out = [0.0f32; 16];
-    let mut i = 0usize;
-    while i < 16 {
-        let v = load3(s, (k + i) * w);
-        out[i] = square(scene::mul3(l, v));
-        i += 1;
-    }
-    Block { of: out }
-}
-
-fn roots(b: Block) -> Block
-    ensures { λ r. ⌜ r .of ≡ map (sqrtOf binary32) (b .of) ⌝ }
-{
-    let a = b.of;
-    let mut out = [0.0f32; 16];
-    let mut i = 0usize;
-    while i < 16 {
-        out[i] = float::sqrt(a[i]);
-        i += 1;
-    }
-    Block { of: out }
-}
-
-// l times v divided by its length, which is given; v where there is no length to divide by.
-fn unit_by(l: Mat3, len: f32, v: Vec3) -> Vec3
-    requires { ⌜ len ≡ norm (turned (mat3 l) (vec3 v)) ⌝ }
-    ensures { λ r. ⌜ vec3 r ≡ turnedUnit (mat3 l) (vec3 v) ⌝ }
-{
-    let d = scene::mul3(l, v);
     if float::is_finite(len) {
         if len > 0.0 {
-            return Vec3 {
-                x: d.x / len,
-                y: d.y / len,
-                z: d.z / len,
-            };
+            return divided(d, len);
         }
     }
     v
 }
 
-// Turns the direction at `at`, by its length once turned.
-fn turn_at(l: Mat3, len: f32, s: &mut [f32], at: usize)
-    requires { ⌜ (at + 3 ≤ length (now s)) × (len ≡ norm (turned (mat3 l) (part (now s) at 3))) ⌝ }
-    ensures { λ _. ⌜ now (s .exit) ≡ paste (now (s .entry)) at (turnedUnit (mat3 l) (part (now (s .entry)) at 3)) 3 ⌝ }
+// Puts d, divided by its length, in row k; where it has none, the row stays.
+fn put_unit(d: Vec3, len: f32, w: usize, s: &mut [f32], k: usize)
+    requires { ⌜ (3 ≤ w) × (k < length (now s) / w) × (len ≡ norm (vec3 d)) ⌝ }
+    ensures { λ _. ⌜ now (s .exit) ≡ rowChanged w (unitOver (vec3 d)) k (now (s .entry)) ⌝ }
 {
-    let v = load3(s, at);
-    store3(s, at, unit_by(l, len, v));
+    let v = load3(s, k * w);
+    store3(s, k * w, unit_or(d, len, v));
 }
 
-// Turns rows k to k + 15, by their lengths once turned.
-fn divide(l: Mat3, b: Block, w: usize, s: &mut [f32], k: usize)
-    requires { ⌜ (3 ≤ w) × ((k + 16) * w ≤ length (now s)) × (b .of ≡ lengthsFrom w (mat3 l) (now s) k) ⌝ }
-    ensures { λ _. ⌜ now (s .exit) ≡ rowsFrom w (xyzTurned (mat3 l)) k (now (s .entry)) 16 ⌝ }
+// Puts each direction that has a length, divided by that, in rows k to k + 15.
+fn put_each(d: Directions, r: Roots, w: usize, s: &mut [f32], k: usize)
+    requires { ⌜ (3 ≤ w) × ((k + 16) * w ≤ length (now s)) × (r .of ≡ lengthsOf (d .of)) ⌝ }
+    ensures { λ _. ⌜ now (s .exit) ≡ rowsFrom w (λ i. unitOver (row 3 (d .of) i)) k (now (s .entry)) 16 ⌝ }
 {
-    let a = b.of;
+    let a = d.of;
+    let n = r.of;
     let mut i = 0usize;
     while i < 16 {
-        turn_at(l, a[i], s, (k + i) * w);
+        let v = load3(&a, i * 3);
+        put_unit(v, n[i], w, s, k + i);
         i += 1;
     }
 }
 
+fn put_row(v: Vec3, w: usize, s: &mut [f32], k: usize)
+    requires { ⌜ (3 ≤ w) × (k < length (now s) / w) ⌝ }
+    ensures { λ _. ⌜ now (s .exit) ≡ rowChanged w (begun (vec3 v)) k (now (s .entry)) ⌝ }
+{
+    store3(s, k * w, v);
+}
+
+// Puts the directions in rows k to k + 15.
+fn put(d: Directions, w: usize, s: &mut [f32], k: usize)
+    requires { ⌜ (3 ≤ w) × ((k + 16) * w ≤ length (now s)) ⌝ }
+    ensures { λ _. ⌜ now (s .exit) ≡ rowsFrom w (λ i. begun (row 3 (d .of) i)) k (now (s .entry)) 16 ⌝ }
+{
+    let a = d.of;
+    let mut i = 0usize;
+    while i < 16 {
+        put_row(load3(&a, i * 3), w, s, k + i);
+        i += 1;
+    }
+}
+
+// Puts the directions, each divided by its length, in rows k to k + 15; where one has none, the row stays.
+pub(crate) fn put_units(d: Directions, w: usize, s: &mut [f32], k: usize)
+    requires { ⌜ (3 ≤ w) × ((k + 16) * w ≤ length (now s)) ⌝ }
+    ensures { λ _. ⌜ now (s .exit) ≡ rowsFrom w (λ i. unitOver (row 3 (d .of) i)) k (now (s .entry)) 16 ⌝ }
+{
+    let r = float::sqrt_block(squares(d));
+    if r.normal {
+        put(units(d, r), w, s, k);
+        return;
+    }
+    put_each(d, r, w, s, k);
+}
+
 fn turn_block(l: Mat3, w: usize, s: &mut [f32], k: usize)
     requires { ⌜ (3 ≤ w) × ((k + 16) * w ≤ length (now s)) ⌝ }
-    ensures { λ _. ⌜ now (s .exit) ≡ rowsFrom w (xyzTurned (mat3 l)) k (now (s .entry)) 16 ⌝ }
+    ensures { λ _. ⌜ now (s .exit) ≡ rowsFrom w (λ _. xyzTurned (mat3 l)) k (now (s .entry)) 16 ⌝ }
 {
-    let b = roots(squares(l, w, s, k));
-    divide(l, b, w, s, k);
+    put_units(turned(l, directions_at(w, s, k)), w, s, k);
 }
 
 // Turns all whole blocks.
@@ -125,14 +117,14 @@ fn turn_row(l: Mat3, w: usize, s: &mut [f32], k: usize)
     requires { ⌜ (3 ≤ w) × (k < length (now s) / w) ⌝ }
     ensures { λ _. ⌜ now (s .exit) ≡ rowChanged w (xyzTurned (mat3 l)) k (now (s .entry)) ⌝ }
 {
-    let v = load3(s, k * w);
-    turn_at(l, scene::vec3_len(scene::mul3(l, v)), s, k * w);
+    let d = scene::mul3(l, load3(s, k * w));
+    put_unit(d, scene::vec3_len(d), w, s, k);
 }
 
 // Turns the rows past the last whole block.
 fn turn_rest(l: Mat3, w: usize, s: &mut [f32])
     requires { ⌜ 3 ≤ w ⌝ }
-    ensures { λ _. ⌜ now (s .exit) ≡ rowsFrom w (xyzTurned (mat3 l)) (length (now (s .entry)) / w / 16 * 16) (now (s .entry)) (length (now (s .entry)) / w - length (now (s .entry)) / w / 16 * 16) ⌝ }
+    ensures { λ _. ⌜ now (s .exit) ≡ rowsFrom w (λ _. xyzTurned (mat3 l)) (length (now (s .entry)) / w / 16 * 16) (now (s .entry)) (length (now (s .entry)) / w - length (now (s .entry)) / w / 16 * 16) ⌝ }
 {
     let n = s.len() / w;
     let k = n / 16 * 16;

@@ -3,7 +3,9 @@
 // are.
 mod blocks;
 mod directions;
+mod holding;
 mod influences;
+mod packed;
 mod positions;
 mod rigid;
 mod rows;

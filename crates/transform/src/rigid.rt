@@ -36,7 +36,7 @@ fn flip(t: Tangent) -> Tangent
 }
 
 // Flips the handedness of tangent k, if there is one.
-fn flip_tangent(tangents: &mut [f32], k: usize)
+pub(crate) fn flip_tangent(tangents: &mut [f32], k: usize)
     ensures { λ _. ⌜ now (tangents .exit) ≡ rowChanged 4 flipped k (now (tangents .entry)) ⌝ }
 {
     if k < tangents.len() / 4 {

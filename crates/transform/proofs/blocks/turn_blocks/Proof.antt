@@ -46,7 +46,7 @@ loop-again c =
       omega arith,
       l .inv .1,
       search needs,
-      next-block (a .w) (xyzTurned (mat3 (a .l))) (now (a .s)) (l .s) _ (l .b) (c .before .before .turn-block .ensures) (l .inv .3),
+      next-block (a .w) (λ _. xyzTurned (mat3 (a .l))) (now (a .s)) (l .s) _ (l .b) (c .before .before .turn-block .ensures) (l .inv .3),
     )
 
 returns : tie.Need-returns Inv-loop μ-loop

@@ -13,7 +13,7 @@ use Rattle.transform.proofs.blocks.turn_rest.Statement.{statement}
 use Rattle.transform.proofs.blocks.turn_rest.Tie as tie
 
 abbrev Inv-loop : tie.InvT-loop
-Inv-loop l w s₀ n k i₀ s i = (i ≤ n - k) × (n ≡ length s₀ / w) × (k ≡ n / 16 * 16) × (length s ≡ length s₀) × (s ≡ rowsFrom w (xyzTurned (mat3 l)) k s₀ i)
+Inv-loop l w s₀ n k i₀ s i = (i ≤ n - k) × (n ≡ length s₀ / w) × (k ≡ n / 16 * 16) × (length s ≡ length s₀) × (s ≡ rowsFrom w (λ _. xyzTurned (mat3 l)) k s₀ i)
 
 abbrev μ-loop : tie.MeasureT-loop
 μ-loop l w s₀ n k i₀ s i = n - k - i
@@ -45,7 +45,7 @@ loop-again c =
       l .inv .1,
       l .inv .2,
       search needs,
-      next-from (a .w) (xyzTurned (mat3 (a .l))) _ (now (a .s)) (l .s) _ (l .i) (c .before .before .turn-row .ensures) (l .inv .4),
+      next-from (a .w) (λ _. xyzTurned (mat3 (a .l))) _ (now (a .s)) (l .s) _ (l .i) (c .before .before .turn-row .ensures) (l .inv .4),
     )
 
 returns : tie.Need-returns Inv-loop μ-loop
@@ -54,7 +54,7 @@ returns c =
     let l = c .before .loop in
     let n = length (now (a .s)) / a .w in
     let e : l .i ≡ n - n / 16 * 16 = omega (arith, c .loop-test .left, l .inv .1, l .inv .2) in
-    l .inv .4 ∙ ap (rowsFrom (a .w) (xyzTurned (mat3 (a .l))) (n / 16 * 16) (now (a .s))) e
+    l .inv .4 ∙ ap (rowsFrom (a .w) (λ _. xyzTurned (mat3 (a .l))) (n / 16 * 16) (now (a .s))) e
 
 pub turn-rest-spec : {M : Type 1} → statement M
 turn-rest-spec =

@@ -1,10 +1,10 @@
--- `transform::blocks::square` meets its contract. Assumes nothing.
+-- `transform::packed::square` meets its contract. Assumes nothing.
 use mathlib.Core.Path.{refl}
 use mathlib.Core.List.{zipWith}
 use Rattle.model.specs.Lists.{foldl}
 use Rattle.model.specs.Vector.{total, dot}
-use Rattle.transform.proofs.blocks.square.Statement.{statement}
-use Rattle.transform.proofs.blocks.square.Tie as tie
+use Rattle.transform.proofs.packed.square.Statement.{statement}
+use Rattle.transform.proofs.packed.square.Tie as tie
 
 returns : tie.Need-returns
 unfolding dot total foldl zipWith

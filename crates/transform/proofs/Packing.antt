@@ -1,0 +1,85 @@
+-- Vectors that lie one after the other. Assumes nothing.
+use mathlib.Core.Path.{_≡_, sym, ap, _∙_}
+use mathlib.Core.Bool.{true}
+use mathlib.Core.List.{List, _++_, map, append-assoc}
+use Prim.Native.Nat.{ℕ, _+_, _*_, _≤_, _<_}
+use native.Mathlib.Omega.{arith}
+use borrow.Author.Count.{below-none, below-more}
+use lib.Ieee.{Float, nan, binary32, lt}
+use lib.Ieee.Scale.{finite}
+use lib.ListN.{length, getD, take, drop, take-append-drop, length-drop}
+use lib.Seq.{paste, take-all, take-at, drop-at, take-append-le, drop-append-le, length-take-le}
+use Rattle.float.specs.F32.{zero32}
+use Rattle.float.specs.Sqrt.{sqrtOf}
+use Rattle.float.specs.Normal.{isNormal, allNormal}
+use Rattle.float.proofs.Normals.{normal-root, each-normal}
+use Rattle.model.specs.Lists.{part, row}
+use Rattle.model.specs.Vector.{Vector, dot, norm}
+use Rattle.model.proofs.ListLaws.{length-tabulate, getD-tabulate}
+use Rattle.model.proofs.Rowwise.{map-tabulate}
+use Rattle.transform.specs.Blocks.{Packed, squaresOf, lengthsOf}
+
+-- ---- a part that is pasted, and those before it
+front : (p q : List Float) (i n : ℕ) → i + n ≤ length p → part (p ++ q) i n ≡ part p i n
+front p q i n h = ap (take n) (drop-append-le i p q (omega arith)) ∙ take-append-le n (drop i p) q (omega (arith, length-drop i p))
+
+module _ (d : List Float) (at : ℕ) (x : Vector) (w : ℕ) (within : at ≤ length d) where
+  pub part-before : (i n : ℕ) → i + n ≤ at → part (paste d at x w) i n ≡ part d i n
+  part-before i n h =
+      let b : i + n ≤ length (take at d) = omega (arith, length-take-le at d within) in
+      ap (λ (l : List Float). part l i n) (append-assoc (take at d) (take w x) (drop (at + w) d))
+      ∙ front (take at d) (take w x ++ drop (at + w) d) i n b
+      ∙ sym (front (take at d) (drop at d) i n b)
+      ∙ ap (λ (l : List Float). part l i n) (take-append-drop at d)
+
+  pub part-here : length x ≡ w → part (paste d at x w) at w ≡ x
+  part-here e =
+      ap (λ (l : List Float). part l at w) (append-assoc (take at d) (take w x) (drop (at + w) d))
+      ∙ ap (take w) (drop-at (take at d) (take w x ++ drop (at + w) d) at (length-take-le at d within))
+      ∙ take-at (take w x) (drop (at + w) d) w (length-take-le w x (omega arith))
+      ∙ take-all w x (omega arith)
+
+-- ---- one vector more
+pub packed-none : (f : ℕ → Vector) (d : List Float) → Packed 0 f d
+packed-none f d = record { each = below-none (λ i. row 3 d i ≡ f i) }
+
+pub packed-more : (n : ℕ) (f : ℕ → Vector) (d left : List Float) (x : Vector) → n * 3 ≤ length d → length x ≡ 3 → Packed n f d → left ≡ paste d (n * 3) x 3 → x ≡ f n → Packed (n + 1) f left
+packed-more n f d left x h e p q v = record {
+  each =
+      below-more (λ i. row 3 left i ≡ f i) n
+      (λ i b. ap (λ (l : List Float). row 3 l i) q ∙ part-before d (n * 3) x 3 h (i * 3) 3 (omega arith) ∙ p .each i b)
+      (ap (λ (l : List Float). row 3 l n) q ∙ part-here d (n * 3) x 3 h e ∙ v);
+}
+
+pub all-packed : (n : ℕ) (f : ℕ → Vector) (d : List Float) → 16 ≤ n → Packed n f d → Packed 16 f d
+all-packed n f d h p = record { each = λ i b. p .each i (omega arith) }
+
+-- ---- their lengths
+module _ (d : List Float) where
+  pub squares-count : length (squaresOf d) ≡ 16
+  unfolding squaresOf
+  squares-count = length-tabulate 16 _
+
+  pub square-at : (i : ℕ) → i < 16 → getD (squaresOf d) i nan ≡ dot (row 3 d i) (row 3 d i)
+  unfolding squaresOf
+  square-at i h = getD-tabulate 16 _ i nan h
+
+  length-at : (i : ℕ) → i < 16 → getD (lengthsOf d) i nan ≡ norm (row 3 d i)
+  unfolding lengthsOf
+  length-at i h = getD-tabulate 16 _ i nan h
+
+  pub roots-of : map (sqrtOf binary32) (squaresOf d) ≡ lengthsOf d
+  unfolding squaresOf lengthsOf norm
+  roots-of = map-tabulate 16 (sqrtOf binary32) (λ i. dot (row 3 d i) (row 3 d i))
+
+  pub number-at : (n : List Float) → n ≡ lengthsOf d → (i : ℕ) → i < 16 → getD n i nan ≡ norm (row 3 d i)
+  number-at n e i h = ap (λ (l : List Float). getD l i nan) e ∙ length-at i h
+
+  -- where the squares are normal
+  pub root-at : (b : List Float) → b ≡ squaresOf d → allNormal b ≡ true → (i : ℕ) → i < 16 → (finite (norm (row 3 d i)) ≡ true) × (lt zero32 (norm (row 3 d i)) ≡ true)
+  unfolding norm
+  root-at b e t i h =
+      let v = row 3 d i in
+      let s : getD b i nan ≡ dot v v = ap (λ (l : List Float). getD l i nan) e ∙ square-at i h in
+      let n : length b ≡ 16 = ap length e ∙ squares-count in
+      normal-root (dot v v) (ap isNormal (sym s) ∙ each-normal b t i (omega arith))

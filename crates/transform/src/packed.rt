@@ -1,0 +1,98 @@
+// Sixteen directions, copied out of their rows. Each loop over them does one thing to packed floats, which is what makes it
+// fast.
+use crate::rows::load3;
+use crate::rows::store3;
+use float::Block;
+use float::Roots;
+use scene::Mat3;
+use scene::Vec3;
+ghost use mathlib.Core.Path.{_≡_};
+ghost use Prim.Native.Nat.{_+_, _*_, _≤_};
+ghost use lib.Ieee.{nan};
+ghost use lib.ListN.{length, getD};
+ghost use Rattle.model.specs.Lists.{part, row};
+ghost use Rattle.model.specs.Vector.{dot, over};
+ghost use Rattle.model.specs.Matrix.{turned};
+ghost use Rattle.scene.specs.Values.{vec3, mat3};
+ghost use Rattle.transform.specs.Blocks.{Packed, squaresOf};
+
+// Three floats a direction, one after the other.
+pub(crate) struct Directions {
+    pub(crate) of: [f32; 48],
+}
+
+// The first three floats of rows k to k + 15.
+pub(crate) fn directions_at(w: usize, s: &[f32], k: usize) -> Directions
+    requires { ⌜ (3 ≤ w) × ((k + 16) * w ≤ length (now s)) ⌝ }
+    ensures { λ r. ⌜ Packed 16 (λ i. part (now (s .entry)) ((k + i) * w) 3) (r .of) ⌝ }
+{
+    let mut out = [0.0f32; 48];
+    let mut i = 0usize;
+    while i < 16 {
+        let v = load3(s, (k + i) * w);
+        store3(&mut out, i * 3, v);
+        i += 1;
+    }
+    Directions { of: out }
+}
+
+// l times each.
+pub(crate) fn turned(l: Mat3, d: Directions) -> Directions
+    ensures { λ r. ⌜ Packed 16 (λ i. turned (mat3 l) (row 3 (d .of) i)) (r .of) ⌝ }
+{
+    let a = d.of;
+    let mut out = [0.0f32; 48];
+    let mut i = 0usize;
+    while i < 16 {
+        let v = load3(&a, i * 3);
+        store3(&mut out, i * 3, scene::mul3(l, v));
+        i += 1;
+    }
+    Directions { of: out }
+}
+
+fn square(v: Vec3) -> f32
+    ensures { λ r. ⌜ r ≡ dot (vec3 v) (vec3 v) ⌝ }
+{
+    v.x * v.x + v.y * v.y + v.z * v.z
+}
+
+// The squares of their lengths.
+pub(crate) fn squares(d: Directions) -> Block
+    ensures { λ r. ⌜ r .of ≡ squaresOf (d .of) ⌝ }
+{
+    let a = d.of;
+    let mut out = [0.0f32; 16];
+    let mut i = 0usize;
+    while i < 16 {
+        out[i] = square(load3(&a, i * 3));
+        i += 1;
+    }
+    Block { of: out }
+}
+
+pub(crate) fn divided(v: Vec3, n: f32) -> Vec3
+    ensures { λ r. ⌜ vec3 r ≡ over (vec3 v) n ⌝ }
+{
+    Vec3 {
+        x: v.x / n,
+        y: v.y / n,
+        z: v.z / n,
+    }
+}
+
+// Each divided by its length.
+pub(crate) fn units(d: Directions, r: Roots) -> Directions
+    ensures { λ u. ⌜ Packed 16 (λ i. over (row 3 (d .of) i) (getD (r .of) i nan)) (u .of) ⌝ }
+{
+    let a = d.of;
+    let n = r.of;
+    let mut out = [0.0f32; 48];
+    let mut i = 0usize;
+    while i < 16 {
+        let v = load3(&a, i * 3);
+        store3(&mut out, i * 3, divided(v, n[i]));
+        i += 1;
+    }
+    Directions { of: out }
+}
