@@ -8,7 +8,7 @@ use borrow.Author.Count.{below-none, below-more}
 use lib.Ieee.{Float, nan, binary32, lt}
 use lib.Ieee.Scale.{finite}
 use lib.ListN.{length, getD, take, drop, take-append-drop, length-drop}
-use lib.Seq.{paste, take-all, take-at, drop-at, take-append-le, drop-append-le, length-take-le}
+use lib.Seq.{paste, take-all, take-at, drop-at, drop-drop, drop-paste, take-append-le, drop-append-le, length-take-le}
 use Rattle.float.specs.F32.{zero32}
 use Rattle.float.specs.Sqrt.{sqrtOf}
 use Rattle.float.specs.Normal.{isNormal, allNormal}
@@ -50,6 +50,17 @@ packed-more n f d left x h e p q v = record {
       (λ i b. ap (λ (l : List Float). row 3 l i) q ∙ part-before d (n * 3) x 3 h (i * 3) 3 (omega arith) ∙ p .each i b)
       (ap (λ (l : List Float). row 3 l n) q ∙ part-here d (n * 3) x 3 h e ∙ v);
 }
+
+-- the vectors behind it stay
+pub rest-after : (n : ℕ) (d₀ d left : List Float) (x : Vector) → n * 3 + 3 ≤ length d → length x ≡ 3 → drop (n * 3) d ≡ drop (n * 3) d₀ → left ≡ paste d (n * 3) x 3 → drop ((n + 1) * 3) left ≡ drop ((n + 1) * 3) d₀
+rest-after n d₀ d left x h e s q =
+    let z : (n + 1) * 3 ≡ n * 3 + 3 = omega arith in
+    (λ j. drop (z j) (q j))
+    ∙ drop-paste d (n * 3) x 3 (omega arith) (omega arith)
+    ∙ sym (drop-drop 3 (n * 3) d)
+    ∙ ap (drop 3) s
+    ∙ drop-drop 3 (n * 3) d₀
+    ∙ ap (λ (y : ℕ). drop y d₀) (sym z)
 
 pub all-packed : (n : ℕ) (f : ℕ → Vector) (d : List Float) → 16 ≤ n → Packed n f d → Packed 16 f d
 all-packed n f d h p = record { each = λ i b. p .each i (omega arith) }

@@ -1,6 +1,5 @@
 // Directions in rows of three or more floats, turned in blocks of sixteen: the roots of a block are taken together, which is
 // faster than one after each row.
-use crate::packed::Directions;
 use crate::packed::directions_at;
 use crate::packed::divided;
 use crate::packed::squares;
@@ -45,15 +44,14 @@ fn put_unit(d: Vec3, len: f32, w: usize, s: &mut [f32], k: usize)
 }
 
 // Puts each direction that has a length, divided by that, in rows k to k + 15.
-fn put_each(d: Directions, r: Roots, w: usize, s: &mut [f32], k: usize)
-    requires { ⌜ (3 ≤ w) × ((k + 16) * w ≤ length (now s)) × (r .of ≡ lengthsOf (d .of)) ⌝ }
-    ensures { λ _. ⌜ now (s .exit) ≡ rowsFrom w (λ i. unitOver (row 3 (d .of) i)) k (now (s .entry)) 16 ⌝ }
+fn put_each(d: &[f32; 48], r: Roots, w: usize, s: &mut [f32], k: usize)
+    requires { ⌜ (3 ≤ w) × ((k + 16) * w ≤ length (now s)) × (r .of ≡ lengthsOf (now d)) ⌝ }
+    ensures { λ _. ⌜ now (s .exit) ≡ rowsFrom w (λ i. unitOver (row 3 (now (d .entry)) i)) k (now (s .entry)) 16 ⌝ }
 {
-    let a = d.of;
     let n = r.of;
     let mut i = 0usize;
     while i < 16 {
-        let v = load3(&a, i * 3);
+        let v = load3(d, i * 3);
         put_unit(v, n[i], w, s, k + i);
         i += 1;
     }
@@ -67,26 +65,27 @@ fn put_row(v: Vec3, w: usize, s: &mut [f32], k: usize)
 }
 
 // Puts the directions in rows k to k + 15.
-fn put(d: Directions, w: usize, s: &mut [f32], k: usize)
+fn put(d: &[f32; 48], w: usize, s: &mut [f32], k: usize)
     requires { ⌜ (3 ≤ w) × ((k + 16) * w ≤ length (now s)) ⌝ }
-    ensures { λ _. ⌜ now (s .exit) ≡ rowsFrom w (λ i. begun (row 3 (d .of) i)) k (now (s .entry)) 16 ⌝ }
+    ensures { λ _. ⌜ now (s .exit) ≡ rowsFrom w (λ i. begun (row 3 (now (d .entry)) i)) k (now (s .entry)) 16 ⌝ }
 {
-    let a = d.of;
     let mut i = 0usize;
     while i < 16 {
-        put_row(load3(&a, i * 3), w, s, k + i);
+        put_row(load3(d, i * 3), w, s, k + i);
         i += 1;
     }
 }
 
-// Puts the directions, each divided by its length, in rows k to k + 15; where one has none, the row stays.
-pub(crate) fn put_units(d: Directions, w: usize, s: &mut [f32], k: usize)
+// Puts the directions, each divided by its length, in rows k to k + 15; where one has none, the row stays. They are divided in
+// place.
+pub(crate) fn put_units(d: &mut [f32; 48], w: usize, s: &mut [f32], k: usize)
     requires { ⌜ (3 ≤ w) × ((k + 16) * w ≤ length (now s)) ⌝ }
-    ensures { λ _. ⌜ now (s .exit) ≡ rowsFrom w (λ i. unitOver (row 3 (d .of) i)) k (now (s .entry)) 16 ⌝ }
+    ensures { λ _. ⌜ now (s .exit) ≡ rowsFrom w (λ i. unitOver (row 3 (now (d .entry)) i)) k (now (s .entry)) 16 ⌝ }
 {
     let r = float::sqrt_block(squares(d));
     if r.normal {
-        put(units(d, r), w, s, k);
+        units(d, r);
+        put(d, w, s, k);
         return;
     }
     put_each(d, r, w, s, k);
@@ -96,7 +95,9 @@ fn turn_block(l: Mat3, w: usize, s: &mut [f32], k: usize)
     requires { ⌜ (3 ≤ w) × ((k + 16) * w ≤ length (now s)) ⌝ }
     ensures { λ _. ⌜ now (s .exit) ≡ rowsFrom w (λ _. xyzTurned (mat3 l)) k (now (s .entry)) 16 ⌝ }
 {
-    put_units(turned(l, directions_at(w, s, k)), w, s, k);
+    let d = turned(l, directions_at(w, s, k));
+    let mut a = d.of;
+    put_units(&mut a, w, s, k);
 }
 
 // Turns all whole blocks.

@@ -3,7 +3,6 @@
 use crate::blocks::put_units;
 use crate::influences::Blend;
 use crate::influences::joint_matrix;
-use crate::packed::Directions;
 use crate::positions::move_position;
 use crate::rigid::flip_tangent;
 use crate::rows::load3;
@@ -183,9 +182,9 @@ fn hold_block(
 }
 
 // Puts the directions that were held back in rows k to k + 15, divided by their lengths.
-fn put_held(whole: bool, d: Directions, w: usize, s: &mut [f32], k: usize)
+fn put_held(whole: bool, d: &mut [f32; 48], w: usize, s: &mut [f32], k: usize)
     requires { ⌜ (3 ≤ w) × (whole ≡ true → (k + 16) * w ≤ length (now s)) ⌝ }
-    ensures { λ _. ⌜ now (s .exit) ≡ pick whole (rowsFrom w (λ i. unitOver (row 3 (d .of) i)) k (now (s .entry)) 16) (now (s .entry)) ⌝ }
+    ensures { λ _. ⌜ now (s .exit) ≡ pick whole (rowsFrom w (λ i. unitOver (row 3 (now (d .entry)) i)) k (now (s .entry)) 16) (now (s .entry)) ⌝ }
 {
     if whole {
         put_units(d, w, s, k);
@@ -219,8 +218,8 @@ pub(crate) fn skin_block(
         tangents,
         k,
     );
-    let n = held.normals;
-    let t = held.tangents;
-    put_held(whole.normals, Directions { of: n }, 3, normals, k);
-    put_held(whole.tangents, Directions { of: t }, 4, tangents, k);
+    let mut n = held.normals;
+    let mut t = held.tangents;
+    put_held(whole.normals, &mut n, 3, normals, k);
+    put_held(whole.tangents, &mut t, 4, tangents, k);
 }

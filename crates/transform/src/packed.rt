@@ -58,14 +58,13 @@ fn square(v: Vec3) -> f32
 }
 
 // The squares of their lengths.
-pub(crate) fn squares(d: Directions) -> Block
-    ensures { λ r. ⌜ r .of ≡ squaresOf (d .of) ⌝ }
+pub(crate) fn squares(d: &[f32; 48]) -> Block
+    ensures { λ r. ⌜ r .of ≡ squaresOf (now (d .entry)) ⌝ }
 {
-    let a = d.of;
     let mut out = [0.0f32; 16];
     let mut i = 0usize;
     while i < 16 {
-        out[i] = square(load3(&a, i * 3));
+        out[i] = square(load3(d, i * 3));
         i += 1;
     }
     Block { of: out }
@@ -81,18 +80,15 @@ pub(crate) fn divided(v: Vec3, n: f32) -> Vec3
     }
 }
 
-// Each divided by its length.
-pub(crate) fn units(d: Directions, r: Roots) -> Directions
-    ensures { λ u. ⌜ Packed 16 (λ i. over (row 3 (d .of) i) (getD (r .of) i nan)) (u .of) ⌝ }
+// Each divided by its length, in place.
+pub(crate) fn units(d: &mut [f32; 48], r: Roots)
+    ensures { λ _. ⌜ Packed 16 (λ i. over (row 3 (now (d .entry)) i) (getD (r .of) i nan)) (now (d .exit)) ⌝ }
 {
-    let a = d.of;
     let n = r.of;
-    let mut out = [0.0f32; 48];
     let mut i = 0usize;
     while i < 16 {
-        let v = load3(&a, i * 3);
-        store3(&mut out, i * 3, divided(v, n[i]));
+        let v = load3(d, i * 3);
+        store3(d, i * 3, divided(v, n[i]));
         i += 1;
     }
-    Directions { of: out }
 }

@@ -14,40 +14,39 @@ use Rattle.transform.proofs.blocks.put.Statement.{statement}
 use Rattle.transform.proofs.blocks.put.Tie as tie
 
 abbrev Inv-loop : tie.InvT-loop
-Inv-loop w s₀ k a i₀ s i = (i ≤ 16) × (length s ≡ length s₀) × (length a ≡ 48) × (s ≡ rowsFrom w (λ j. begun (row 3 a j)) k s₀ i)
+Inv-loop d w s₀ k i₀ s i = (i ≤ 16) × (length s ≡ length s₀) × (s ≡ rowsFrom w (λ j. begun (row 3 d j)) k s₀ i)
 
 abbrev μ-loop : tie.MeasureT-loop
-μ-loop w s₀ k a i₀ s i = 16 - i
+μ-loop d w s₀ k i₀ s i = 16 - i
 
 loop-holds : tie.Need-loop-holds Inv-loop μ-loop
 unfolding rowsFrom
-loop-holds c = (search needs, refl, search needs, refl)
+loop-holds c = (search needs, refl, refl)
 
 add-put-row : tie.Need-add-put-row Inv-loop μ-loop
-add-put-row c = let s = c .before .before .before .before .before .before .before in let l = c .before .before .before .before .loop in omega (arith, row-number (s .args .w) (s .args .k + l .i) (s .pre .0), in-block (s .args .w) (s .args .k) (l .i) (length (now (s .args .s))) (omega arith) (s .pre .1))
+add-put-row c = let s = c .before .before .before .before .before .before in let l = c .before .before .before .before .loop in omega (arith, row-number (s .args .w) (s .args .k + l .i) (s .pre .0), in-block (s .args .w) (s .args .k) (l .i) (length (now (s .args .s))) (omega arith) (s .pre .1))
 
 put-row-requires : tie.Need-put-row-requires Inv-loop μ-loop
 put-row-requires c κs =
-    let s = c .before .before .before .before .before .before .before in
+    let s = c .before .before .before .before .before .before in
     let l = c .before .before .before .before .loop in
     (s .pre .0, has-row (s .args .w) (s .args .k + l .i) (length (l .s)) (omega (arith, s .pre .0)) (omega (arith, l .inv .1, in-block (s .args .w) (s .args .k) (l .i) (length (now (s .args .s))) (omega arith) (s .pre .1))))
 
 loop-again : tie.Need-loop-again Inv-loop μ-loop
 loop-again c =
-    let a = c .before .before .before .before .before .before .before .before .before .before .args in
+    let a = c .before .before .before .before .before .before .before .before .before .args in
     let l = c .before .before .before .before .before .before .before .loop in (
       search needs,
       search needs,
-      l .inv .2,
-      next-from (a .w) (λ j. begun (row 3 (a .d .of) j)) (a .k) (now (a .s)) (l .s) _ (l .i) (c .before .before .put-row .ensures ∙ ap (λ (v : Vector). rowChanged (a .w) (begun v) (a .k + l .i) (l .s)) (c .before .before .before .before .load3 .ensures)) (l .inv .3),
+      next-from (a .w) (λ j. begun (row 3 (now (a .d)) j)) (a .k) (now (a .s)) (l .s) _ (l .i) (c .before .before .put-row .ensures ∙ ap (λ (v : Vector). rowChanged (a .w) (begun v) (a .k + l .i) (l .s)) (c .before .before .before .before .load3 .ensures)) (l .inv .2),
     )
 
 returns : tie.Need-returns Inv-loop μ-loop
 returns c =
-    let a = c .before .before .before .before .args in
+    let a = c .before .before .before .args in
     let l = c .before .loop in
     let e : l .i ≡ 16 = omega (arith, c .loop-test .left) in
-    l .inv .3 ∙ ap (rowsFrom (a .w) (λ j. begun (row 3 (a .d .of) j)) (a .k) (now (a .s))) e
+    l .inv .2 ∙ ap (rowsFrom (a .w) (λ j. begun (row 3 (now (a .d)) j)) (a .k) (now (a .s))) e
 
 pub put-spec : {M : Type 1} → statement M
 put-spec =
@@ -56,7 +55,6 @@ put-spec =
     Inv-loop
     μ-loop
     loop-holds
-    (λ c. search needs)
     (λ c. search needs)
     (λ c κs. search needs)
     add-put-row

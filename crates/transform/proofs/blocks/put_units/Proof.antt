@@ -12,14 +12,14 @@ use Rattle.transform.proofs.blocks.put_units.Tie as tie
 
 returns : tie.Need-returns
 returns c =
-    let a = c .before .before .before .before .before .before .before .before .before .args in
-    let r = c .before .before .before .before .before .before .sqrt-block .ensures in
-    block-units (a .w) (a .k) (now (a .s)) _ (a .d .of) _ _ _ (c .before .before .before .before .before .before .before .squares .ensures) (sym (r .1) ∙ c .before .before .before .before .before .if1 .taken) (r .0) (c .before .before .before .before .units .ensures) (c .before .before .put .ensures)
+    let a = c .before .before .before .before .before .before .before .before .before .before .before .before .args in
+    let r = c .before .before .before .before .before .before .before .before .sqrt-block .ensures in
+    block-units (a .w) (a .k) (now (a .s)) _ (now (a .d)) _ _ _ (c .before .before .before .before .before .before .before .before .before .squares .ensures) (sym (r .1) ∙ c .before .before .before .before .before .before .before .if1 .taken) (r .0) (c .before .before .before .before .before .units .ensures) (c .before .before .put .ensures)
 
 put-each-requires : tie.Need-put-each-requires
 put-each-requires c κs =
-    let s = c .before .before .before .before .before in
-    (s .pre .0, s .pre .1, c .before .before .sqrt-block .ensures .0 ∙ ap (map (sqrtOf binary32)) (c .before .before .before .squares .ensures) ∙ roots-of (s .args .d .of))
+    let s = c .before .before .before .before .before .before .before in
+    (s .pre .0, s .pre .1, c .before .before .before .sqrt-block .ensures .0 ∙ ap (map (sqrtOf binary32)) (c .before .before .before .before .squares .ensures) ∙ roots-of (now (s .args .d)))
 
 pub put-units-spec : {M : Type 1} → statement M
 put-units-spec =

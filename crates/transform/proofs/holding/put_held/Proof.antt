@@ -9,12 +9,12 @@ use Rattle.transform.proofs.holding.put_held.Statement.{statement}
 use Rattle.transform.proofs.holding.put_held.Tie as tie
 
 put-units-requires : tie.Need-put-units-requires
-put-units-requires c κs = let s = c .before .before .before in (s .pre .0, s .pre .1 (c .before .if1 .taken))
+put-units-requires c κs = let s = c .before .before .before .before in (s .pre .0, s .pre .1 (c .before .before .if1 .taken))
 
 returns : tie.Need-returns
 returns c =
-    let a = c .before .before .before .before .before .before .args in
-    c .before .before .put-units .ensures ∙ sym (ap (λ (b : Bool). pick b (rowsFrom (a .w) (λ i. unitOver (row 3 (a .d .of) i)) (a .k) (now (a .s)) 16) (now (a .s))) (c .before .before .before .before .if1 .taken))
+    let a = c .before .before .before .before .before .before .before .args in
+    c .before .before .put-units .ensures ∙ sym (ap (λ (b : Bool). pick b (rowsFrom (a .w) (λ i. unitOver (row 3 (now (a .d)) i)) (a .k) (now (a .s)) 16) (now (a .s))) (c .before .before .before .before .before .if1 .taken))
 
 pub put-held-spec : {M : Type 1} → statement M
 put-held-spec = tie.close (tie.spec put-units-requires (λ c. search needs) returns (λ c. search needs))
