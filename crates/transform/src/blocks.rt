@@ -3,7 +3,7 @@
 use crate::packed::directions_at;
 use crate::packed::divided;
 use crate::packed::squares;
-use crate::packed::turned;
+use crate::packed::turn;
 use crate::packed::units;
 use crate::rows::load3;
 use crate::rows::store3;
@@ -95,9 +95,10 @@ fn turn_block(l: Mat3, w: usize, s: &mut [f32], k: usize)
     requires { ⌜ (3 ≤ w) × ((k + 16) * w ≤ length (now s)) ⌝ }
     ensures { λ _. ⌜ now (s .exit) ≡ rowsFrom w (λ _. xyzTurned (mat3 l)) k (now (s .entry)) 16 ⌝ }
 {
-    let d = turned(l, directions_at(w, s, k));
-    let mut a = d.of;
-    put_units(&mut a, w, s, k);
+    let v = directions_at(w, s, k);
+    let mut d = v.of;
+    turn(l, &mut d);
+    put_units(&mut d, w, s, k);
 }
 
 // Turns all whole blocks.

@@ -36,19 +36,16 @@ pub(crate) fn directions_at(w: usize, s: &[f32], k: usize) -> Directions
     Directions { of: out }
 }
 
-// l times each.
-pub(crate) fn turned(l: Mat3, d: Directions) -> Directions
-    ensures { λ r. ⌜ Packed 16 (λ i. turned (mat3 l) (row 3 (d .of) i)) (r .of) ⌝ }
+// l times each, in place.
+pub(crate) fn turn(l: Mat3, d: &mut [f32; 48])
+    ensures { λ _. ⌜ Packed 16 (λ i. turned (mat3 l) (row 3 (now (d .entry)) i)) (now (d .exit)) ⌝ }
 {
-    let a = d.of;
-    let mut out = [0.0f32; 48];
     let mut i = 0usize;
     while i < 16 {
-        let v = load3(&a, i * 3);
-        store3(&mut out, i * 3, scene::mul3(l, v));
+        let v = load3(d, i * 3);
+        store3(d, i * 3, scene::mul3(l, v));
         i += 1;
     }
-    Directions { of: out }
 }
 
 fn square(v: Vec3) -> f32

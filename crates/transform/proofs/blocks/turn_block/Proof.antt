@@ -8,9 +8,9 @@ use Rattle.transform.proofs.blocks.turn_block.Tie as tie
 
 returns : tie.Need-returns
 returns c =
-    let s = c .before .before .before .before .before .before .before .before .before .before in
+    let s = c .before .before .before .before .before .before .before .before .before .before .before in
     let a = s .args in
-    block-turned (a .w) (mat3 (a .l)) (a .k) (now (a .s)) _ _ _ (s .pre .0) (c .before .before .before .before .before .before .before .directions-at .ensures) (c .before .before .before .before .before .before .turned .ensures) (c .before .before .put-units .ensures)
+    block-turned (a .w) (mat3 (a .l)) (a .k) (now (a .s)) _ _ _ (s .pre .0) (c .before .before .before .before .before .before .before .before .directions-at .ensures) (c .before .before .before .before .before .turn .ensures) (c .before .before .put-units .ensures)
 
 pub turn-block-spec : {M : Type 1} → statement M
 turn-block-spec =
