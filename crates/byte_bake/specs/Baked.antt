@@ -77,7 +77,7 @@ writtenBy drawn l i time lent =
       output = model.bake drawn s r .output;
     }
 
--- bytes with others at the start, as lent past these
+-- a slice that starts with these bytes, and is as lent past them
 abbrev pub startingWith : List ℕ → List ℕ → List ℕ
 startingWith bytes lent = bytes ++ drop (length bytes) lent
 
@@ -106,11 +106,11 @@ withOutput o lent = record {
 abbrev pub withRoom : Room → ByteRoom → ByteRoom
 withRoom r lent = record { scratch = withScratch (r .scratch) (lent .scratch); output = withOutput (r .output) (lent .output) }
 
--- `drawn` is what the tables drew
+-- what the tables drew is given
 pub record BakedBytes (drawn : ℕ) (l : Lent) (i : ℕ) (time : Float) (lent left : ByteRoom) (a : Answer) : Type 0 where
   pub answer : answerOf a ≡ model.bake drawn (sceneOf l) (requestIn i time lent) .answer
   pub room : left ≡ withRoom (writtenBy drawn l i time lent) lent
 
--- what the tables of a decoded scene drew
+-- of a scene with no slice over size
 abbrev pub BakedLent : Lent → ℕ → Float → ByteRoom → ByteRoom → Answer → Type 0
 BakedLent l i time lent left a = BakedBytes (tablesNumber l) l i time lent left a

@@ -5,6 +5,7 @@ ghost use Prim.Native.Nat.{_≤_};
 ghost use Rattle.byte_bake.specs.Baked.{ByteSlices, ByteOutput, ByteRoom, withScratch, withOutput, withRoom};
 ghost use Rattle.byte_bake.specs.Writing.{whenLeft, amountsOf, scratchStart, outputStart, roomStart, ScratchFits, OutputFits};
 
+// In words and floats.
 pub(crate) struct Amounts {
     marks: usize,
     slots: usize,

@@ -15,7 +15,14 @@ slice-aggregate-bake-over-3 : tie.Need-slice-aggregate-bake-over-3
 slice-aggregate-bake-over-3 c = sym (length-take-le _ _ (search needs))
 
 bake-over-requires : tie.Need-bake-over-requires
-bake-over-requires c κs = (c .before .before .before .before .before .before .before .before .before .before .before .before .before .before .before .before .before .before .before .before .before .before .before .before .before .before .before .before .before .before .before .before .before .before .before .before .pre, record { positions = length-take-le _ _ (search needs) ∙ c .before .before .before .before .before .before .before .before .before .before .before .before .before .before .before .before .before .before .least .ensures; normals = length-take-le _ _ (search needs) ∙ c .before .before .before .before .before .before .before .before .before .before .before .before .before .before .before .before .before .least2 .ensures; tangents = length-take-le _ _ (search needs) ∙ c .before .before .before .before .before .before .before .before .before .before .before .before .before .before .before .before .least3 .ensures })
+bake-over-requires c κs = (
+  c .before .before .before .before .before .before .before .before .before .before .before .before .before .before .before .before .before .before .before .before .before .before .before .before .before .before .before .before .before .before .before .before .before .before .before .before .pre,
+  record {
+    positions = length-take-le _ _ (search needs) ∙ c .before .before .before .before .before .before .before .before .before .before .before .before .before .before .before .before .before .before .least .ensures;
+    normals = length-take-le _ _ (search needs) ∙ c .before .before .before .before .before .before .before .before .before .before .before .before .before .before .before .before .before .least2 .ensures;
+    tangents = length-take-le _ _ (search needs) ∙ c .before .before .before .before .before .before .before .before .before .before .before .before .before .before .before .before .least3 .ensures;
+  },
+)
 
 same-length : tie.Need-same-length
 same-length c = c .before .before .before .before .before .before .before .before .before .before .before .before .before .before .before .before .before .before .before .before .before .before .before .before .before .before .before .before .before .bake-over .kept .1 .1 .1 .1 .1 .1 .1 .0

@@ -23,14 +23,32 @@ amounts-of-requires c κs =
     let s = c .before .before .before .before .before .before .before .before .before .before .before .before .before .before .before .before .before .before .before .before .before .before .before .before .before .before .before .before .before .before .before .before .before .before .before .before .before .before .before .before .before .before .before .before .before .before in
     let t = c .before .before .before .before .before .before .before .before .before .before .before .before .before .before .before .before .before .world-mesh-at in
     few-nodes (lentOf s) (s .args .node) (s .args .time) (localOf s) _ _ (t .ensures) (bytesOf s) (s .pre .0) (s .pre .1)
-    (record { marks = t .kept .1 .1 .1 .1 .1 .1 .1 .0; slots = t .kept .1 .1 .1 .1 .1 .1 .1 .1 .0; walk = t .kept .1 .1 .1 .1 .1 .1 .1 .1 .1 .0; places = t .kept .1 .1 .1 .1 .1 .1 .1 .1 .1 .1 .0; worlds = t .kept .1 .1 .1 .1 .1 .1 .1 .1 .1 .1 .1 .0; positions = t .kept .1 .1 .1 .1 .1 .1 .1 .1 .1 .1 .1 .1 .0; normals = t .kept .1 .1 .1 .1 .1 .1 .1 .1 .1 .1 .1 .1 .1 .0; tangents = t .kept .1 .1 .1 .1 .1 .1 .1 .1 .1 .1 .1 .1 .1 .1 .0 })
+    (record {
+      marks = t .kept .1 .1 .1 .1 .1 .1 .1 .0;
+      slots = t .kept .1 .1 .1 .1 .1 .1 .1 .1 .0;
+      walk = t .kept .1 .1 .1 .1 .1 .1 .1 .1 .1 .0;
+      places = t .kept .1 .1 .1 .1 .1 .1 .1 .1 .1 .1 .0;
+      worlds = t .kept .1 .1 .1 .1 .1 .1 .1 .1 .1 .1 .1 .0;
+      positions = t .kept .1 .1 .1 .1 .1 .1 .1 .1 .1 .1 .1 .1 .0;
+      normals = t .kept .1 .1 .1 .1 .1 .1 .1 .1 .1 .1 .1 .1 .1 .0;
+      tangents = t .kept .1 .1 .1 .1 .1 .1 .1 .1 .1 .1 .1 .1 .1 .1 .0;
+    })
 
 write-back-requires : tie.Need-write-back-requires
 write-back-requires c κs =
     let s = c .before .before .before .before .before .before .before .before .before .before .before .before .before .before .before .before .before .before .before .before .before .before .before .before .before .before .before .before .before .before .before .before .before .before .before .before .before .before .before .before .before .before .before .before .before .before .before .before .before .before .before .before .before .before .before .before .before .before .before .before .before .before .before in
     let t = c .before .before .before .before .before .before .before .before .before .before .before .before .before .before .before .before .before .before .before .before .before .before .before .before .before .before .before .before .before .before .before .before .before .before .world-mesh-at in
     fits (lentOf s) (s .args .node) (s .args .time) (localOf s) _ _ (t .ensures) (bytesOf s) (s .pre .0) (s .pre .1)
-    (record { marks = t .kept .1 .1 .1 .1 .1 .1 .1 .0; slots = t .kept .1 .1 .1 .1 .1 .1 .1 .1 .0; walk = t .kept .1 .1 .1 .1 .1 .1 .1 .1 .1 .0; places = t .kept .1 .1 .1 .1 .1 .1 .1 .1 .1 .1 .0; worlds = t .kept .1 .1 .1 .1 .1 .1 .1 .1 .1 .1 .1 .0; positions = t .kept .1 .1 .1 .1 .1 .1 .1 .1 .1 .1 .1 .1 .0; normals = t .kept .1 .1 .1 .1 .1 .1 .1 .1 .1 .1 .1 .1 .1 .0; tangents = t .kept .1 .1 .1 .1 .1 .1 .1 .1 .1 .1 .1 .1 .1 .1 .0 })
+    (record {
+      marks = t .kept .1 .1 .1 .1 .1 .1 .1 .0;
+      slots = t .kept .1 .1 .1 .1 .1 .1 .1 .1 .0;
+      walk = t .kept .1 .1 .1 .1 .1 .1 .1 .1 .1 .0;
+      places = t .kept .1 .1 .1 .1 .1 .1 .1 .1 .1 .1 .0;
+      worlds = t .kept .1 .1 .1 .1 .1 .1 .1 .1 .1 .1 .1 .0;
+      positions = t .kept .1 .1 .1 .1 .1 .1 .1 .1 .1 .1 .1 .1 .0;
+      normals = t .kept .1 .1 .1 .1 .1 .1 .1 .1 .1 .1 .1 .1 .1 .0;
+      tangents = t .kept .1 .1 .1 .1 .1 .1 .1 .1 .1 .1 .1 .1 .1 .1 .0;
+    })
     _ (c .before .before .before .before .before .before .before .before .before .before .before .before .before .before .before .before .amounts-of .ensures)
 
 same-length : tie.Need-same-length
@@ -86,7 +104,16 @@ returns c =
     let s = c .before .before .before .before .before .before .before .before .before .before .before .before .before .before .before .before .before .before .before .before .before .before .before .before .before .before .before .before .before .before .before .before .before .before .before .before .before .before .before .before .before .before .before .before .before .before .before .before .before .before .before .before .before .before .before .before .before .before .before .before .before .before .before .before .before .before .before .before .before .before .before .before .before .before .before .before .before .before .before .before in
     let t = c .before .before .before .before .before .before .before .before .before .before .before .before .before .before .before .before .before .before .before .before .before .before .before .before .before .before .before .before .before .before .before .before .before .before .before .before .before .before .before .before .before .before .before .before .before .before .before .before .before .before .before .world-mesh-at in
     delivered (lentOf s) (s .args .node) (s .args .time) (localOf s) _ _ (t .ensures) (bytesOf s) (s .pre .0) (s .pre .1)
-    (record { marks = t .kept .1 .1 .1 .1 .1 .1 .1 .0; slots = t .kept .1 .1 .1 .1 .1 .1 .1 .1 .0; walk = t .kept .1 .1 .1 .1 .1 .1 .1 .1 .1 .0; places = t .kept .1 .1 .1 .1 .1 .1 .1 .1 .1 .1 .0; worlds = t .kept .1 .1 .1 .1 .1 .1 .1 .1 .1 .1 .1 .0; positions = t .kept .1 .1 .1 .1 .1 .1 .1 .1 .1 .1 .1 .1 .0; normals = t .kept .1 .1 .1 .1 .1 .1 .1 .1 .1 .1 .1 .1 .1 .0; tangents = t .kept .1 .1 .1 .1 .1 .1 .1 .1 .1 .1 .1 .1 .1 .1 .0 })
+    (record {
+      marks = t .kept .1 .1 .1 .1 .1 .1 .1 .0;
+      slots = t .kept .1 .1 .1 .1 .1 .1 .1 .1 .0;
+      walk = t .kept .1 .1 .1 .1 .1 .1 .1 .1 .1 .0;
+      places = t .kept .1 .1 .1 .1 .1 .1 .1 .1 .1 .1 .0;
+      worlds = t .kept .1 .1 .1 .1 .1 .1 .1 .1 .1 .1 .1 .0;
+      positions = t .kept .1 .1 .1 .1 .1 .1 .1 .1 .1 .1 .1 .1 .0;
+      normals = t .kept .1 .1 .1 .1 .1 .1 .1 .1 .1 .1 .1 .1 .1 .0;
+      tangents = t .kept .1 .1 .1 .1 .1 .1 .1 .1 .1 .1 .1 .1 .1 .1 .0;
+    })
     _ (c .before .before .before .before .before .before .before .before .before .before .before .before .before .before .before .before .before .before .before .before .before .before .before .before .before .before .before .before .before .before .before .before .before .amounts-of .ensures) _ (c .before .before .before .before .before .before .before .before .before .before .before .before .before .before .before .before .write-back .ensures)
 
 pub bake-over-spec : {M : Type 1} → statement M

@@ -21,7 +21,14 @@ slice-aggregate-bake-outputs-5 : tie.Need-slice-aggregate-bake-outputs-5
 slice-aggregate-bake-outputs-5 c = sym (length-take-le _ _ (search needs))
 
 bake-outputs-requires : tie.Need-bake-outputs-requires
-bake-outputs-requires c κs = record { marks = length-take-le _ _ (search needs) ∙ c .before .before .before .before .before .before .before .before .before .before .before .before .before .before .before .before .before .least .ensures; slots = length-take-le _ _ (search needs) ∙ c .before .before .before .before .before .before .before .before .before .before .before .before .before .before .before .before .least2 .ensures; walk = length-take-le _ _ (search needs) ∙ c .before .before .before .before .before .before .before .before .before .before .before .before .before .before .before .least3 .ensures; places = length-take-le _ _ (search needs) ∙ c .before .before .before .before .before .before .before .before .before .before .before .before .before .before .least4 .ensures; worlds = length-take-le _ _ (search needs) ∙ c .before .before .before .before .before .before .before .before .before .before .before .before .before .least5 .ensures }
+bake-outputs-requires c κs =
+    record {
+      marks = length-take-le _ _ (search needs) ∙ c .before .before .before .before .before .before .before .before .before .before .before .before .before .before .before .before .before .least .ensures;
+      slots = length-take-le _ _ (search needs) ∙ c .before .before .before .before .before .before .before .before .before .before .before .before .before .before .before .before .least2 .ensures;
+      walk = length-take-le _ _ (search needs) ∙ c .before .before .before .before .before .before .before .before .before .before .before .before .before .before .before .least3 .ensures;
+      places = length-take-le _ _ (search needs) ∙ c .before .before .before .before .before .before .before .before .before .before .before .before .before .before .least4 .ensures;
+      worlds = length-take-le _ _ (search needs) ∙ c .before .before .before .before .before .before .before .before .before .before .before .before .before .least5 .ensures;
+    }
 
 same-length : tie.Need-same-length
 same-length c = c .before .before .before .before .before .before .before .before .before .before .before .before .before .before .before .before .before .before .before .before .before .bake-outputs .kept .1 .1 .1 .1 .1 .1 .1 .1 .1 .1 .1 .1 .0
