@@ -6,7 +6,6 @@ use lent_bytes::SLOTS;
 use lent_bytes::WORDS;
 use tables::Header;
 use worlds::Answer;
-ghost use mathlib.Core.Path.{_≡_};
 ghost use lib.ListN.{take};
 ghost use Rattle.wire.specs.Bytes.{wordsIn, floatsIn};
 ghost use Rattle.checks.specs.Drawn.{lentAs, tablesNumber};

@@ -1,9 +1,8 @@
 -- `byte_entries::decoding::place_decoded` meets its contract. Assumes nothing.
 use mathlib.Core.Path.{sym}
-use mathlib.Core.List.{List}
 use borrow.Author.Needs.{needs}
 use denote.Ref.{now}
-use lib.Ieee.{Float, binary32, ofBits}
+use lib.Ieee.{binary32, ofBits}
 use lib.ListN.{take}
 use lib.Seq.{length-take-le}
 use Rattle.wire.specs.Bytes.{floatsIn}

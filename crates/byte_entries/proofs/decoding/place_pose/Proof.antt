@@ -1,9 +1,8 @@
 -- `byte_entries::decoding::place_pose` meets its contract. Assumes nothing.
 use mathlib.Core.Path.{sym}
-use mathlib.Core.List.{List}
 use borrow.Author.Needs.{needs}
 use denote.Ref.{now}
-use lib.Ieee.{Float, binary32, ofBits}
+use lib.Ieee.{binary32, ofBits}
 use lib.Seq.{length-take-le}
 use Rattle.lent_bytes.proofs.Decoding.{read-into}
 use Rattle.byte_entries.proofs.Tables.{same-pose}
