@@ -1,7 +1,7 @@
 // Numbers in hexadecimal digits.
 ghost use mathlib.Core.Path.{_≡_};
-ghost use Prim.Native.Nat.{_+_, _%_, _<_, _≤_};
-ghost use lib.ListN.{length};
+ghost use Prim.Native.Nat.{_+_, _%_, _<_};
+ghost use lib.ListN.{getD};
 ghost use Rattle.lists.specs.Digits.{digitOf, spelled};
 
 fn digit(b: u8) -> u64
@@ -10,15 +10,27 @@ fn digit(b: u8) -> u64
     ((b % 16 + 9 * (b / 64)) % 16) as u64
 }
 
+// Byte k behind `from`, 0 past the text.
+fn byte_behind(text: &[u8], from: usize, k: usize) -> u8
+    ensures { λ r. ⌜ r ≡ getD (now (text .entry)) (from + k) 0 ⌝ }
+{
+    if text.len() <= from {
+        return 0;
+    }
+    if text.len() - from <= k {
+        return 0;
+    }
+    text[from + k]
+}
+
 // The number that so many digits spell, of more than sixteen the last sixteen.
 pub fn hexadecimal(text: &[u8], from: usize, count: usize) -> u64
-    requires { ⌜ from + count ≤ length (now text) ⌝ }
     ensures { λ r. ⌜ r ≡ spelled (now (text .entry)) from count ⌝ }
 {
     let mut n: u64 = 0;
     let mut k = 0;
     while k < count {
-        n = n % 0x1000_0000_0000_0000 * 16 + digit(text[from + k]);
+        n = n % 0x1000_0000_0000_0000 * 16 + digit(byte_behind(text, from, k));
         k += 1;
     }
     n
@@ -26,7 +38,6 @@ pub fn hexadecimal(text: &[u8], from: usize, count: usize) -> u64
 
 // The number that eight digits spell.
 pub fn word(text: &[u8], from: usize) -> u32
-    requires { ⌜ from + 8 ≤ length (now text) ⌝ }
     ensures { λ r. ⌜ r ≡ spelled (now (text .entry)) from 8 % 0x1_0000_0000 ⌝ }
 {
     (hexadecimal(text, from, 8) % 0x1_0000_0000) as u32
