@@ -6,7 +6,7 @@ use native.Mathlib.Nat.{suc-mul, mul-le-mul-right, add-zero}
 use native.Mathlib.Omega.{arith}
 use borrow.Author.Count.{below-more}
 use lib.Ieee.{Float}
-use lib.ListN.{length, take, drop, take-append-drop}
+use lib.ListN.{length, take, take-append-drop}
 use lib.Seq.{paste, take-add, length-paste}
 use Rattle.model.specs.Lists.{row}
 use Rattle.model.specs.Vector.{Vector}
@@ -39,7 +39,7 @@ module _ (w : ℕ) (f : Vector → Vector) (keeps : (v : Vector) → length v �
 
 -- ---- rows from k on, which are there
 module _ (w : ℕ) (f : ℕ → Vector → Vector) (keeps : (i : ℕ) (v : Vector) → length v ≡ w → length (f i v) ≡ w) (k : ℕ) (l : List Float) where
-  pub from-length : (n : ℕ) → k + n ≤ length l / w → length (rowsFrom w f k l n) ≡ length l
+  from-length : (n : ℕ) → k + n ≤ length l / w → length (rowsFrom w f k l n) ≡ length l
   unfolding rowsFrom
   from-length zero h = refl
   from-length (suc n) h =

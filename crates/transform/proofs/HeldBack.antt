@@ -3,7 +3,7 @@ use mathlib.Core.Path.{_≡_, refl, sym, ap, _∙_}
 use mathlib.Core.Bool.{Bool, true, false, _&&_}
 use mathlib.Core.Option.{Option, none, some}
 use mathlib.Core.List.{List, [], _∷_, _++_, zipWith}
-use Prim.Native.Nat.{ℕ, zero, suc, _+_, _*_, _/_, _≤_, _<_}
+use Prim.Native.Nat.{ℕ, zero, suc, _+_, _/_, _≤_, _<_}
 use native.Mathlib.Omega.{arith}
 use lib.Ieee.{Float, neg, add, mul, lt, ofBits}
 use lib.Ieee.Scale.{finite}
@@ -11,11 +11,10 @@ use lib.ListN.{length, take, drop, take-append-drop, length-append, length-take,
 use lib.Seq.{take-all}
 use Rattle.float.specs.F32.{zero32}
 use Rattle.float.specs.Sqrt.{sqrtOf}
-use Rattle.model.specs.Lists.{pick, foldl, orElse, andThen, mapSome, part, row}
+use Rattle.model.specs.Lists.{pick, foldl, orElse, andThen, mapSome, row}
 use Rattle.model.specs.Vector.{Vector, over, total, dot, norm, normalized}
 use Rattle.model.specs.Matrix.{Matrix, linear, turned, determinant, inverseTranspose}
 use Rattle.model.specs.Vertices.{byMatrix, turnedUnit, turnedNormal, turnedTangent}
-use Rattle.model.proofs.Rowwise.{row-length}
 use Rattle.transform.specs.Rows.{rowChanged}
 use Rattle.transform.specs.Blocks.{xyzTurned, flipped, begun, unitOver, rowsFrom, Packed}
 use Rattle.transform.specs.Holding.{zeros, directionBy, handed}

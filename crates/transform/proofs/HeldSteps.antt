@@ -3,7 +3,7 @@ use mathlib.Core.Path.{_≡_, refl, sym, ap, subst, _∙_}
 use mathlib.Core.Bool.{Bool, true, false, true≢false, _||_}
 use mathlib.Core.Option.{Option, none, some}
 use mathlib.Core.List.{List}
-use Prim.Native.Nat.{ℕ, _+_, _*_, _/_, _≤_, _<_}
+use Prim.Native.Nat.{ℕ, _+_, _*_, _/_, _≤_}
 use native.Mathlib.Omega.{arith}
 use lib.Ieee.{Float, lt}
 use lib.ListN.{length, take, drop}
@@ -23,7 +23,7 @@ use Rattle.transform.specs.declared.holding.Whole.{Whole}
 use Rattle.transform.specs.Rows.{rowChanged}
 use Rattle.transform.specs.Blocks.{flipped, unitOver, rowsFrom}
 use Rattle.transform.specs.Blending.{blended, MovedFrom}
-use Rattle.transform.specs.Holding.{zeros, directionBy, handed, Room, HeldOne, Held, HeldVertex, HeldRows}
+use Rattle.transform.specs.Holding.{zeros, directionBy, handed, HeldOne, Held, HeldVertex, HeldRows}
 use Rattle.transform.proofs.RowSteps.{row-kept}
 use Rattle.transform.proofs.RowLengths.{normal-length, optional-length}
 use Rattle.transform.proofs.Packing.{packed-none, packed-more}
@@ -42,6 +42,11 @@ module _ (l : Linear) (v : Vector) where
 
   pub no-direction : l ≡ linear.None → zeros ≡ directionBy (linearOf l) v
   no-direction e = sym (ap (λ (y : Linear). directionBy (linearOf y) v) e)
+
+-- a normal by the linear part l
+pub held-normal : (whole : Bool) (m : Matrix) (normals : List Float) (v i : ℕ) (lent left : List Float) (l : Linear) (n d : Vector) → linearOf l ≡ inverseTranspose m → n ≡ row 3 normals v → d ≡ directionBy (linearOf l) n
+    → left ≡ paste lent (i * 3) d 3 → HeldOne whole i (directionBy (inverseTranspose m) (row 3 normals v)) lent left
+held-normal whole m normals v i lent left l n d q p r e = record { stored = λ _. e ∙ ap (λ (x : Vector). paste lent (i * 3) x 3) (r ∙ (λ j. directionBy (q j) (p j))) }
 
 pub hands : (m : Matrix) (d : Float) (v : ℕ) (l left : List Float) → d ≡ determinant m → left ≡ rowChanged 4 (λ x. pick (lt d zero32) (flipped x) x) v l → left ≡ rowChanged 4 (handed m) v l
 unfolding handed

@@ -1,13 +1,8 @@
 -- `transform::holding::hold_normal` meets its contract. Assumes nothing.
-use mathlib.Core.Path.{ap, _∙_}
-use Prim.Native.Nat.{_*_}
 use native.Mathlib.Omega.{arith}
 use denote.Ref.{now}
-use lib.Seq.{paste}
-use Rattle.model.specs.Vector.{Vector}
 use Rattle.model.proofs.Rowwise.{row-ends}
-use Rattle.transform.specs.Holding.{directionBy}
-use Rattle.transform.proofs.HeldSteps.{held-not}
+use Rattle.transform.proofs.HeldSteps.{held-not, held-normal}
 use borrow.Author.Needs.{needs}
 use Rattle.transform.proofs.holding.hold_normal.Statement.{statement}
 use Rattle.transform.proofs.holding.hold_normal.Tie as tie
@@ -19,10 +14,7 @@ load3-requires : tie.Need-load3-requires
 load3-requires c κs = let s = c .before .before .before in omega (arith, row-ends 3 (now (s .args .normals)) (s .args .v) (s .pre .1 (c .if1 .taken)))
 
 returns : tie.Need-returns
-returns c =
-    let a = c .before .before .before .before .before .before .before .before .before .before .args in
-    let e = c .before .before .before .direction .ensures ∙ (λ j. directionBy (c .before .before .before .before .linear-inverse-transpose .ensures j) (c .before .before .before .before .before .before .load3 .ensures j)) in
-    record { stored = λ _. c .before .before .store3 .ensures ∙ ap (λ (x : Vector). paste (now (a .held)) (a .i * 3) x 3) e }
+returns c = search (needs, held-normal)
 
 returns-2 : tie.Need-returns-2
 returns-2 c = held-not _ _ _ _ (c .if1 .left)
