@@ -35,6 +35,7 @@ fn exports(source: Source) -> Vec<(String, Signature)> {
 
 fn number(name: &str) -> Option<&'static str> {
     Some(match name {
+        "bool" => "bool",
         "u8" => "uint8_t",
         "u32" => "uint32_t",
         "usize" => "size_t",
