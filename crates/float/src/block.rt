@@ -6,11 +6,11 @@ ghost use mathlib.Core.Bool.{true, not};
 ghost use mathlib.Core.List.{map};
 ghost use Prim.Native.Nat.{ℕ, _^_, _<_};
 ghost use lib.Dec.{T, eqb};
-ghost use lib.Ieee.{binary32, isNan, lt, nan, toBits};
+ghost use lib.Ieee.{binary32, isNan, nan, toBits};
 ghost use lib.ListN.{getD};
 ghost use Rattle.float.specs.Sqrt.{sqrtOf};
 ghost use Rattle.float.specs.Patterns.{Near};
-ghost use Rattle.float.specs.Normal.{tenTo37, isNormal, allNormal, oneUnless};
+ghost use Rattle.float.specs.Normal.{isNormal, allNormal, oneUnless};
 
 // A number for each of sixteen rows.
 pub struct Block {
@@ -25,7 +25,7 @@ pub struct Roots {
 
 // x where it is below 10^37, and 10^37 otherwise: never a NaN.
 fn below(x: f32) -> f32
-    ensures { λ r. ⌜ T (not (isNan r)) × (lt x tenTo37 ≡ true → r ≡ x) ⌝ }
+    ensures { λ r. ⌜ T (not (isNan r)) ⌝ }
 {
     if x < 1.0e37 {
         return x;
@@ -59,12 +59,12 @@ fn rest(y: f32, s: f32) -> f32
     ((y - h * h) - (h + h) * l) - l * l
 }
 
-// The significand of a guess at the root of x: a polynomial, then a step of Newton's. Nothing is promised of it but that it is
+// The significand of a guess at the root of y: a polynomial, then a step of Newton's. Nothing is promised of it but that it is
 // small.
-fn guess(x: f32) -> u32
+fn guess(y: f32) -> u32
+    requires { ⌜ isNormal y ≡ true ⌝ }
     ensures { λ r. ⌜ r < 2 ^ 24 ⌝ }
 {
-    let y = below(x);
     let v = inverse(y);
     let g = y * v;
     let h = g * v;
@@ -76,6 +76,7 @@ fn guess(x: f32) -> u32
 }
 
 fn guesses(a: [f32; 16]) -> [u32; 16]
+    requires { ⌜ allNormal a ≡ true ⌝ }
     ensures { λ r. ⌜ ((i : ℕ) → i < 16 → getD r i 0 < 2 ^ 24) ⌝ }
 {
     let mut q = [0u32; 16];
@@ -87,14 +88,14 @@ fn guesses(a: [f32; 16]) -> [u32; 16]
     q
 }
 
-// Below 2^50 only where q is within a half of the root of x's significand, for an x below 10^37: e - p is below it where
-// p * p < n + p, and the other number where n <= p * p + p.
+// Below 2^50 only where q is within a half of the root of x's significand: e - p is below it where p * p < n + p, and the
+// other number where n <= p * p + p.
 fn off(x: f32, q: u32) -> u64
-    requires { ⌜ q < 2 ^ 24 ⌝ }
-    ensures { λ r. ⌜ (r < 2 ^ 50 → lt x tenTo37 ≡ true → Near (toBits binary32 x) q) ⌝ }
+    requires { ⌜ (isNormal x ≡ true) × (q < 2 ^ 24) ⌝ }
+    ensures { λ r. ⌜ (r < 2 ^ 50 → Near (toBits binary32 x) q) ⌝ }
 {
-    let a: u32 = f32::to_bits(below(x));
-    let n = number(a as u64);
+    let a: u32 = f32::to_bits(x);
+    let n = number(a);
     let p = q as u64;
     let e = p * p + 0x4_0000_0000_0000 - n;
     (e - p) | (0x7_ffff_ffff_ffff - (e + p))
@@ -102,8 +103,8 @@ fn off(x: f32, q: u32) -> u64
 
 // Below 2^50 only where that holds of every guess.
 fn all_off(a: [f32; 16], q: [u32; 16]) -> u64
-    requires { ⌜ ((i : ℕ) → i < 16 → getD q i 0 < 2 ^ 24) ⌝ }
-    ensures { λ r. ⌜ (r < 2 ^ 50 → (i : ℕ) → i < 16 → lt (getD a i nan) tenTo37 ≡ true → Near (toBits binary32 (getD a i nan)) (getD q i 0)) ⌝ }
+    requires { ⌜ (allNormal a ≡ true) × ((i : ℕ) → i < 16 → getD q i 0 < 2 ^ 24) ⌝ }
+    ensures { λ r. ⌜ (r < 2 ^ 50 → (i : ℕ) → i < 16 → Near (toBits binary32 (getD a i nan)) (getD q i 0)) ⌝ }
 {
     let mut d: u64 = 0;
     let mut i = 0usize;
@@ -149,7 +150,7 @@ fn root_by(x: f32, q: u32) -> f32
 }
 
 fn roots_by(a: [f32; 16], q: [u32; 16]) -> [f32; 16]
-    requires { ⌜ ((i : ℕ) → i < 16 → (isNormal (getD a i nan) ≡ true) × Near (toBits binary32 (getD a i nan)) (getD q i 0)) ⌝ }
+    requires { ⌜ (allNormal a ≡ true) × ((i : ℕ) → i < 16 → Near (toBits binary32 (getD a i nan)) (getD q i 0)) ⌝ }
     ensures { λ r. ⌜ r ≡ map (sqrtOf binary32) a ⌝ }
 {
     let mut out = [0.0f32; 16];
@@ -179,10 +180,10 @@ pub fn sqrt_block(b: Block) -> Roots
     ensures { λ r. ⌜ (r .of ≡ map (sqrtOf binary32) (b .of)) × (r .normal ≡ allNormal (b .of)) ⌝ }
 {
     let a = b.of;
-    let q = guesses(a);
-    let d = all_off(a, q);
     let n = count_outside(a);
     if n == 0 {
+        let q = guesses(a);
+        let d = all_off(a, q);
         if d < 0x4_0000_0000_0000 {
             let s = roots_by(a, q);
             return Roots {

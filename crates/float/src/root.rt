@@ -129,10 +129,12 @@ fn near(a: u64) -> u64
 }
 
 // The significand of a normal f32, moved up so that its root's whole part has 24 digits.
-pub(crate) fn number(a: u64) -> u64
+pub(crate) fn number(a: u32) -> u64
     ensures { λ r. ⌜ (r ≡ numberOf a) × (r ≤ 2 ^ 48) ⌝ }
 {
-    ((a & 0x7f_ffff) + 0x80_0000) * (0x100_0000 - ((a >> 23) & 1) * 0x80_0000)
+    let m = (a & 0x7f_ffff) + 0x80_0000;
+    let f = 0x100_0000 - ((a >> 23) & 1) * 0x80_0000;
+    (m as u64) * (f as u64)
 }
 
 // The f32 nearest to the square root of x, ties to even: Rust's `x.sqrt()`. For a normal x above 0 the guess is it, where it is
@@ -148,7 +150,7 @@ pub fn sqrt(x: f32) -> f32
         if b < 0x7f80_0000 {
             let a = b as u64;
             let q = near(a);
-            let n = number(a);
+            let n = number(b);
             let s = q * q;
             if s < n + q {
                 if n <= s + q {

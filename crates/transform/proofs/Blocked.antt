@@ -23,7 +23,7 @@ use Rattle.model.proofs.Rowwise.{row-ends, row-length}
 use Rattle.transform.specs.Rows.{rowChanged, firstRows}
 use Rattle.transform.specs.Blocks.{xyzTurned, begun, unitOver, rowsFrom, Packed, squaresOf}
 use Rattle.scene.proofs.Lengths.{has-length}
-use Rattle.transform.proofs.Packing.{roots-of, number-at, root-at}
+use Rattle.transform.proofs.Packing.{lengths-taken, number-at, root-at}
 use Rattle.transform.proofs.RowSteps.{row-changed, each-done}
 use Rattle.transform.proofs.RowLengths.{unit-length}
 
@@ -141,7 +141,7 @@ block-units w k l left d b n q s t r p e =
     e
     ∙ from-alike w _ _ k l 16
     (λ i h v.
-    let m = number-at d n (r ∙ ap (map (sqrtOf binary32)) s ∙ roots-of d) i h in
+    let m = number-at d n (lengths-taken d b n s r) i h in
     let u = root-at d b s t i h in
     ap (λ (x : Vector). begun x v) (p .each i h ∙ ap (over (row 3 d i)) m) ∙ ap (λ (o : Option Vector). begun (orElse o (take 3 v)) v) (has-length (row 3 d i) (norm (row 3 d i)) refl (u .0) (u .1)))
 

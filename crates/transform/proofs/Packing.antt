@@ -79,9 +79,12 @@ module _ (d : List Float) where
   unfolding lengthsOf
   length-at i h = getD-tabulate 16 _ i nan h
 
-  pub roots-of : map (sqrtOf binary32) (squaresOf d) ≡ lengthsOf d
+  roots-of : map (sqrtOf binary32) (squaresOf d) ≡ lengthsOf d
   unfolding squaresOf lengthsOf norm
   roots-of = map-tabulate 16 (sqrtOf binary32) (λ i. dot (row 3 d i) (row 3 d i))
+
+  pub lengths-taken : (b n : List Float) → b ≡ squaresOf d → n ≡ map (sqrtOf binary32) b → n ≡ lengthsOf d
+  lengths-taken b n s r = r ∙ ap (map (sqrtOf binary32)) s ∙ roots-of
 
   pub number-at : (n : List Float) → n ≡ lengthsOf d → (i : ℕ) → i < 16 → getD n i nan ≡ norm (row 3 d i)
   number-at n e i h = ap (λ (l : List Float). getD l i nan) e ∙ length-at i h

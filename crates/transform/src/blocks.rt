@@ -1,7 +1,7 @@
-// Directions in rows of three or more floats, turned in blocks of sixteen: the roots of a block are taken together, which is
+// Directions in rows of three or four floats, turned in blocks of sixteen: the roots of a block are taken together, which is
 // faster than one after each row.
-use crate::packed::directions_at;
 use crate::packed::divided;
+use crate::packed::gather;
 use crate::packed::squares;
 use crate::packed::turn;
 use crate::packed::units;
@@ -91,25 +91,64 @@ pub(crate) fn put_units(d: &mut [f32; 48], w: usize, s: &mut [f32], k: usize)
     put_each(d, r, w, s, k);
 }
 
-fn turn_block(l: Mat3, w: usize, s: &mut [f32], k: usize)
-    requires { ⌜ (3 ≤ w) × ((k + 16) * w ≤ length (now s)) ⌝ }
+// The two below have the width written out: loops over rows of a width that is not known until they run are not turned into
+// vector lanes.
+
+// Turns normals k to k + 15.
+fn turn_normal_block(l: Mat3, normals: &mut [f32], k: usize)
+    requires { ⌜ (k + 16) * 3 ≤ length (now normals) ⌝ }
+    ensures { λ _. ⌜ now (normals .exit) ≡ rowsFrom 3 (λ _. xyzTurned (mat3 l)) k (now (normals .entry)) 16 ⌝ }
+{
+    let mut d = [0.0f32; 48];
+    gather(3, normals, k, &mut d);
+    turn(l, &mut d);
+    let r = float::sqrt_block(squares(&d));
+    if r.normal {
+        units(&mut d, r);
+        put(&d, 3, normals, k);
+        return;
+    }
+    put_each(&d, r, 3, normals, k);
+}
+
+// Turns tangents k to k + 15. d is only room for their directions. It is lent, since an array of its own would be seen to end
+// here: the divisions would then be done row by row as they are stored, and not four at once.
+fn turn_tangent_block(l: Mat3, tangents: &mut [f32], k: usize, d: &mut [f32; 48])
+    requires { ⌜ (k + 16) * 4 ≤ length (now tangents) ⌝ }
+    ensures { λ _. ⌜ now (tangents .exit) ≡ rowsFrom 4 (λ _. xyzTurned (mat3 l)) k (now (tangents .entry)) 16 ⌝ }
+{
+    gather(4, tangents, k, d);
+    turn(l, d);
+    let r = float::sqrt_block(squares(d));
+    if r.normal {
+        units(d, r);
+        put(d, 4, tangents, k);
+        return;
+    }
+    put_each(d, r, 4, tangents, k);
+}
+
+fn turn_block(l: Mat3, w: usize, s: &mut [f32], k: usize, d: &mut [f32; 48])
+    requires { ⌜ (3 ≤ w) × (w ≤ 4) × ((k + 16) * w ≤ length (now s)) ⌝ }
     ensures { λ _. ⌜ now (s .exit) ≡ rowsFrom w (λ _. xyzTurned (mat3 l)) k (now (s .entry)) 16 ⌝ }
 {
-    let v = directions_at(w, s, k);
-    let mut d = v.of;
-    turn(l, &mut d);
-    put_units(&mut d, w, s, k);
+    if w == 3 {
+        turn_normal_block(l, s, k);
+        return;
+    }
+    turn_tangent_block(l, s, k, d);
 }
 
 // Turns all whole blocks.
 fn turn_blocks(l: Mat3, w: usize, s: &mut [f32])
-    requires { ⌜ 3 ≤ w ⌝ }
+    requires { ⌜ (3 ≤ w) × (w ≤ 4) ⌝ }
     ensures { λ _. ⌜ now (s .exit) ≡ firstRows w (λ _. xyzTurned (mat3 l)) (now (s .entry)) (length (now (s .entry)) / w / 16 * 16) ⌝ }
 {
     let n = s.len() / w / 16;
+    let mut d = [0.0f32; 48];
     let mut b = 0usize;
     while b < n {
-        turn_block(l, w, s, b * 16);
+        turn_block(l, w, s, b * 16, &mut d);
         b += 1;
     }
 }
@@ -139,7 +178,7 @@ fn turn_rest(l: Mat3, w: usize, s: &mut [f32])
 
 // Turns the directions that the rows of w floats begin with.
 pub(crate) fn turn_rows(l: Mat3, w: usize, s: &mut [f32])
-    requires { ⌜ 3 ≤ w ⌝ }
+    requires { ⌜ (3 ≤ w) × (w ≤ 4) ⌝ }
     ensures { λ _. ⌜ now (s .exit) ≡ overRows w (map (xyzTurned (mat3 l)) (rowsIn w (now (s .entry)))) (now (s .entry)) ⌝ }
 {
     turn_blocks(l, w, s);

@@ -1,5 +1,5 @@
-// Sixteen directions, copied out of their rows. Each loop over them does one thing to packed floats, which is what makes it
-// fast.
+// Sixteen directions, copied out of their rows: three floats each, one after the other. Each loop over them does one thing to
+// packed floats, which is what makes it fast.
 use crate::rows::load3;
 use crate::rows::store3;
 use float::Block;
@@ -16,24 +16,17 @@ ghost use Rattle.model.specs.Matrix.{turned};
 ghost use Rattle.scene.specs.Values.{vec3, mat3};
 ghost use Rattle.transform.specs.Blocks.{Packed, squaresOf};
 
-// Three floats a direction, one after the other.
-pub(crate) struct Directions {
-    pub(crate) of: [f32; 48],
-}
-
-// The first three floats of rows k to k + 15.
-pub(crate) fn directions_at(w: usize, s: &[f32], k: usize) -> Directions
+// Copies the first three floats of rows k to k + 15.
+pub(crate) fn gather(w: usize, s: &[f32], k: usize, d: &mut [f32; 48])
     requires { ⌜ (3 ≤ w) × ((k + 16) * w ≤ length (now s)) ⌝ }
-    ensures { λ r. ⌜ Packed 16 (λ i. part (now (s .entry)) ((k + i) * w) 3) (r .of) ⌝ }
+    ensures { λ _. ⌜ Packed 16 (λ i. part (now (s .entry)) ((k + i) * w) 3) (now (d .exit)) ⌝ }
 {
-    let mut out = [0.0f32; 48];
     let mut i = 0usize;
     while i < 16 {
         let v = load3(s, (k + i) * w);
-        store3(&mut out, i * 3, v);
+        store3(d, i * 3, v);
         i += 1;
     }
-    Directions { of: out }
 }
 
 // l times each, in place.

@@ -3,21 +3,24 @@ use native.Mathlib.Omega.{arith}
 use lib.Bits.{and-le-r}
 use lib.Ieee.{binary32, toBits}
 use borrow.Author.Needs.{needs}
+use Rattle.float.proofs.Normals.{normal-number}
 use Rattle.float.proofs.block.guess.Statement.{statement}
 use Rattle.float.proofs.block.guess.Tie as tie
 
+inverse-requires : tie.Need-inverse-requires
+inverse-requires c κs = normal-number (c .args .y) (c .pre)
+
 add-result : tie.Need-add-result
-add-result c = omega (arith, and-le-r (toBits binary32 (c .below3 .result)) 8388607)
+add-result c = omega (arith, and-le-r (toBits binary32 (c .below2 .result)) 8388607)
 
 returns : tie.Need-returns
-returns c = omega (arith, and-le-r (toBits binary32 (c .below3 .result)) 8388607)
+returns c = omega (arith, and-le-r (toBits binary32 (c .below2 .result)) 8388607)
 
 pub guess-spec : {M : Type 1} → statement M
 guess-spec =
     tie.close
     (tie.spec
-    (λ c κs. search needs)
-    (λ c κs. search needs)
+    inverse-requires
     (λ c κs. search needs)
     (λ c κs. search needs)
     (λ c κs. search needs)

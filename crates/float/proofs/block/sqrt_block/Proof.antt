@@ -1,28 +1,27 @@
 -- `float::block::sqrt_block` meets its contract. Assumes nothing.
 use mathlib.Core.Path.{_≡_, sym, _∙_}
 use mathlib.Core.Bool.{true}
-use native.Mathlib.Omega.{arith}
-use lib.ListN.{length}
 use borrow.Author.Needs.{needs}
 use borrow.Author.Tests.{eq-eqb}
 use Rattle.float.specs.Normal.{allNormal}
-use Rattle.float.proofs.Normals.{under, each-normal}
 use Rattle.float.proofs.block.sqrt_block.Statement.{statement}
 use Rattle.float.proofs.block.sqrt_block.Tie as tie
 
 -- the count is 0
-all-normal : (c : tie.Then1) → allNormal (c .before .before .before .before .before .args .b .of) ≡ true
+all-normal : (c : tie.Then1) → allNormal (c .before .before .before .args .b .of) ≡ true
 all-normal c = sym (c .before .count-outside .ensures) ∙ eq-eqb (c .before .count-outside .result) 0 (c .if1 .taken)
 
+guesses-requires : tie.Need-guesses-requires
+guesses-requires c κs = all-normal c
+
+all-off-requires : tie.Need-all-off-requires
+all-off-requires c κs = (all-normal (c .before), c .guesses .ensures)
+
 roots-by-requires : tie.Need-roots-by-requires
-roots-by-requires c κs i h =
-    let a = c .before .before .before .before .before .before .args .b .of in
-    let n : length a ≡ 16 = search needs in
-    let e = each-normal a (all-normal (c .before)) i (omega arith) in
-    (e, c .before .before .before .all-off .ensures (c .if2 .taken) i h (under _ e))
+roots-by-requires c κs = (all-normal (c .before .before .before), c .before .all-off .ensures (c .if2 .taken))
 
 returns : tie.Need-returns
-returns c = (c .roots-by .ensures, sym (all-normal (c .before .before)))
+returns c = (c .roots-by .ensures, sym (all-normal (c .before .before .before .before)))
 
 pub sqrt-block-spec : {M : Type 1} → statement M
-sqrt-block-spec = tie.close (tie.spec (λ c κs. search needs) (λ c κs. search needs) (λ c κs. search needs) roots-by-requires returns (λ c κs. search needs) (λ c. search needs))
+sqrt-block-spec = tie.close (tie.spec (λ c κs. search needs) guesses-requires all-off-requires roots-by-requires returns (λ c κs. search needs) (λ c. search needs))

@@ -1,10 +1,7 @@
 -- `transform::blocks::put_units` meets its contract. Assumes nothing.
-use mathlib.Core.Path.{ap, _∙_, sym}
-use mathlib.Core.List.{map}
+use mathlib.Core.Path.{_∙_, sym}
 use denote.Ref.{now}
-use lib.Ieee.{binary32}
-use Rattle.float.specs.Sqrt.{sqrtOf}
-use Rattle.transform.proofs.Packing.{roots-of}
+use Rattle.transform.proofs.Packing.{lengths-taken}
 use Rattle.transform.proofs.Blocked.{block-units}
 use borrow.Author.Needs.{needs}
 use Rattle.transform.proofs.blocks.put_units.Statement.{statement}
@@ -19,7 +16,7 @@ returns c =
 put-each-requires : tie.Need-put-each-requires
 put-each-requires c κs =
     let s = c .before .before .before .before .before .before .before in
-    (s .pre .0, s .pre .1, c .before .before .before .sqrt-block .ensures .0 ∙ ap (map (sqrtOf binary32)) (c .before .before .before .before .squares .ensures) ∙ roots-of (now (s .args .d)))
+    (s .pre .0, s .pre .1, lengths-taken (now (s .args .d)) _ _ (c .before .before .before .before .squares .ensures) (c .before .before .before .sqrt-block .ensures .0))
 
 pub put-units-spec : {M : Type 1} → statement M
 put-units-spec =

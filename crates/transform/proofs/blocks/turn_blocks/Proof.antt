@@ -14,13 +14,13 @@ use Rattle.transform.proofs.blocks.turn_blocks.Statement.{statement}
 use Rattle.transform.proofs.blocks.turn_blocks.Tie as tie
 
 abbrev Inv-loop : tie.InvT-loop
-Inv-loop l w s₀ n b₀ s b = (b ≤ n) × (n ≡ length s₀ / w / 16) × (length s ≡ length s₀) × (s ≡ firstRows w (λ _. xyzTurned (mat3 l)) s₀ (b * 16))
+Inv-loop l w s₀ n d₀ b₀ s d b = (b ≤ n) × (n ≡ length s₀ / w / 16) × (length s ≡ length s₀) × (s ≡ firstRows w (λ _. xyzTurned (mat3 l)) s₀ (b * 16))
 
 abbrev μ-loop : tie.MeasureT-loop
-μ-loop l w s₀ n b₀ s b = n - b
+μ-loop l w s₀ n d₀ b₀ s d b = n - b
 
 div-n : tie.Need-div-n Inv-loop μ-loop
-div-n c = omega (arith, c .before .pre)
+div-n c = omega (arith, c .before .pre .0)
 
 loop-holds : tie.Need-loop-holds Inv-loop μ-loop
 unfolding firstRows
@@ -31,18 +31,18 @@ mul-turn-block c = omega (arith, div-le-self (length (now (c .before .before .be
 
 turn-block-requires : tie.Need-turn-block-requires Inv-loop μ-loop
 turn-block-requires c κs =
-    let s = c .before .before .before .before in
+    let s = c .before .before .before .before .before in
     let a = s .args in
-    let l = c .before .before .loop in
-    (s .pre, omega (arith, l .inv .2, block-fits (a .w) (l .b) (length (now (a .s))) (omega (arith, l .inv .1))))
+    let l = c .before .before .before .loop in
+    (s .pre .0, s .pre .1, omega (arith, l .inv .2, block-fits (a .w) (l .b) (length (now (a .s))) (omega (arith, l .inv .1))))
 
 add-b : tie.Need-add-b Inv-loop μ-loop
-add-b c = omega (arith, div-le-self (length (now (c .before .before .before .before .before .before .before .args .s))) (c .before .before .before .before .before .before .before .args .w), c .before .before .before .before .before .loop .inv .1)
+add-b c = omega (arith, div-le-self (length (now (c .before .before .before .before .before .before .before .before .args .s))) (c .before .before .before .before .before .before .before .before .args .w), c .before .before .before .before .before .before .loop .inv .1)
 
 loop-again : tie.Need-loop-again Inv-loop μ-loop
 loop-again c =
-    let a = c .before .before .before .before .before .before .before .args in
-    let l = c .before .before .before .before .before .loop in (
+    let a = c .before .before .before .before .before .before .before .before .args in
+    let l = c .before .before .before .before .before .before .loop in (
       omega arith,
       l .inv .1,
       search needs,

@@ -1,5 +1,5 @@
--- `transform::packed::directions_at` meets its contract. Assumes nothing.
-use mathlib.Core.Path.{_≡_, refl}
+-- `transform::packed::gather` meets its contract. Assumes nothing.
+use mathlib.Core.Path.{refl}
 use Prim.Native.Nat.{_+_, _-_, _*_, _≤_}
 use native.Mathlib.Omega.{arith}
 use denote.Ref.{now}
@@ -9,17 +9,17 @@ use Rattle.transform.specs.Blocks.{Packed}
 use Rattle.transform.proofs.Packing.{packed-none, packed-more, all-packed}
 use Rattle.transform.proofs.Blocked.{in-block, row-number}
 use borrow.Author.Needs.{needs}
-use Rattle.transform.proofs.packed.directions_at.Statement.{statement}
-use Rattle.transform.proofs.packed.directions_at.Tie as tie
+use Rattle.transform.proofs.packed.gather.Statement.{statement}
+use Rattle.transform.proofs.packed.gather.Tie as tie
 
 abbrev Inv-loop : tie.InvT-loop
-Inv-loop w s k out₀ i₀ out i = (i ≤ 16) × (length out ≡ 48) × Packed i (λ j. part s ((k + j) * w) 3) out
+Inv-loop w s k d₀ i₀ d i = (i ≤ 16) × Packed i (λ j. part s ((k + j) * w) 3) d
 
 abbrev μ-loop : tie.MeasureT-loop
-μ-loop w s k out₀ i₀ out i = 16 - i
+μ-loop w s k d₀ i₀ d i = 16 - i
 
 loop-holds : tie.Need-loop-holds Inv-loop μ-loop
-loop-holds c = (search needs, search needs, packed-none _ _)
+loop-holds c = (search needs, packed-none _ _)
 
 add-load3 : tie.Need-add-load3 Inv-loop μ-loop
 add-load3 c =
@@ -38,14 +38,15 @@ load3-requires c κs =
 
 loop-again : tie.Need-loop-again Inv-loop μ-loop
 loop-again c =
-    let l = c .before .before .before .before .before .loop in
-    (search needs, search needs, packed-more (l .i) _ (l .out) _ _ (omega arith) refl (l .inv .2) (c .before .store3 .ensures) (c .before .before .before .load3 .ensures))
+    let l = c .before .before .before .before .loop in
+    let n = c .before .store3-arg .given .0 in
+    (search needs, packed-more (l .i) _ (l .d) _ _ (omega (arith, n)) refl (l .inv .1) (c .store3 .ensures) (c .before .before .load3 .ensures))
 
 returns : tie.Need-returns Inv-loop μ-loop
-returns c = let l = c .before .loop in all-packed (l .i) _ (l .out) (omega arith) (l .inv .2)
+returns c = let l = c .before .loop in all-packed (l .i) _ (l .d) (omega arith) (l .inv .1)
 
-pub directions-at-spec : {M : Type 1} → statement M
-directions-at-spec =
+pub gather-spec : {M : Type 1} → statement M
+gather-spec =
     tie.close
     (tie.spec
     Inv-loop
@@ -54,7 +55,6 @@ directions-at-spec =
     add-load3
     mul-load3
     load3-requires
-    (λ c. search needs)
     (λ c. search needs)
     (λ c κs. search needs)
     (λ c. search needs)
