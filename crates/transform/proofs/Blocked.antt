@@ -145,12 +145,14 @@ block-units w k l left d b n q s t r p e =
     let u = root-at d b s t i h in
     ap (λ (x : Vector). begun x v) (p .each i h ∙ ap (over (row 3 d i)) m) ∙ ap (λ (o : Option Vector). begun (orElse o (take 3 v)) v) (has-length (row 3 d i) (norm (row 3 d i)) refl (u .0) (u .1)))
 
-pub block-turned : (w : ℕ) (m : List Float) (k : ℕ) (l left v d : List Float) → 3 ≤ w → Packed 16 (λ i. part l ((k + i) * w) 3) v → Packed 16 (λ i. turned m (row 3 v i)) d
-    → left ≡ rowsFrom w (λ i. unitOver (row 3 d i)) k l 16 → left ≡ rowsFrom w (λ _. xyzTurned m) k l 16
-block-turned w m k l left v d h p q e =
+pub turned-parts : (f : ℕ → Vector) (m v d : List Float) → Packed 16 f v → Packed 16 (λ i. turned m (row 3 v i)) d → Packed 16 (λ i. turned m (f i)) d
+turned-parts f m v d p q = record { each = λ i b. q .each i b ∙ ap (turned m) (p .each i b) }
+
+pub block-turned : (w : ℕ) (m : List Float) (k : ℕ) (l left d : List Float) → 3 ≤ w → Packed 16 (λ i. turned m (part l ((k + i) * w) 3)) d → left ≡ rowsFrom w (λ i. unitOver (row 3 d i)) k l 16 → left ≡ rowsFrom w (λ _. xyzTurned m) k l 16
+block-turned w m k l left d h p e =
     e
     ∙ from-lent w (λ _. xyzTurned m) (λ i x. xyz-length w m x h) k l (λ i. unitOver (row 3 d i)) 16
-    (λ i b. unit-turned w m (k + i) l (row 3 d i) h (q .each i b ∙ ap (turned m) (p .each i b)))
+    (λ i b. unit-turned w m (k + i) l (row 3 d i) h (p .each i b))
 
 pub rows-joined : (w : ℕ) (f : ℕ → Vector → Vector) (l : List Float) (k n : ℕ) → rowsFrom w (λ i. f (k + i)) k (firstRows w f l k) n ≡ firstRows w f l (k + n)
 unfolding rowsFrom firstRows

@@ -7,12 +7,13 @@ use native.Mathlib.Omega.{arith}
 use borrow.Author.Count.{below-none, below-more}
 use lib.Ieee.{Float, nan, binary32, lt}
 use lib.Ieee.Scale.{finite}
-use lib.ListN.{length, getD, take, drop, take-append-drop, length-drop}
-use lib.Seq.{paste, take-all, take-at, drop-at, drop-drop, drop-paste, take-append-le, drop-append-le, length-take-le}
+use lib.ListN.{length, getD, set, take, drop, take-append-drop, length-drop, length-set}
+use lib.Seq.{paste, ext-getD, take-all, take-at, drop-at, drop-drop, drop-paste, take-append-le, drop-append-le, length-take-le}
 use Rattle.float.specs.F32.{zero32}
 use Rattle.float.specs.Sqrt.{sqrtOf}
 use Rattle.float.specs.Normal.{isNormal, allNormal}
 use Rattle.float.proofs.Normals.{normal-root, each-normal}
+use Rattle.float.proofs.Lanes.{set-next}
 use Rattle.model.specs.Lists.{part, row}
 use Rattle.model.specs.Vector.{Vector, dot, norm}
 use Rattle.model.proofs.ListLaws.{length-tabulate, getD-tabulate}
@@ -97,3 +98,25 @@ module _ (d : List Float) where
       let s : getD b i nan ≡ dot v v = ap (λ (l : List Float). getD l i nan) e ∙ square-at i h in
       let n : length b ≡ 16 = ap length e ∙ squares-count in
       normal-root (dot v v) (ap isNormal (sym s) ∙ each-normal b t i (omega arith))
+
+-- ---- vectors that are written with the squares of their lengths
+abbrev pub Measured : ℕ → (ℕ → Vector) → List Float → List Float → Type 0
+Measured n f d out = (length out ≡ 16) × Packed n f d × ((i : ℕ) → i < n → getD out i nan ≡ dot (f i) (f i))
+
+pub measured-more : (n : ℕ) (f : ℕ → Vector) (d left out : List Float) (x : Vector) (y : Float) → n < 16 → n * 3 ≤ length d → length x ≡ 3 → Measured n f d out → left ≡ paste d (n * 3) x 3 → x ≡ f n → y ≡ dot x x → Measured (n + 1) f left (set out n y)
+measured-more n f d left out x y b h e m q v s = (
+  length-set out n y ∙ m .0,
+  packed-more n f d left x h e (m .1) q v,
+  set-next (λ i z. z ≡ dot (f i) (f i)) out n y nan (omega (arith, m .0)) (m .2) (s ∙ (λ j. dot (v j) (v j))),
+)
+
+pub measured-all : (n : ℕ) (f : ℕ → Vector) (d out : List Float) → 16 ≤ n → Measured n f d out → Packed 16 f d × (out ≡ squaresOf d)
+measured-all n f d out h m =
+    let p = all-packed n f d h (m .1) in (
+      p,
+      ext-getD nan out (squaresOf d) (m .0 ∙ sym (squares-count d))
+          (λ i g.
+          let b : i < 16 = omega (arith, m .0) in
+          let e = p .each i b in
+          m .2 i (omega arith) ∙ sym (λ j. dot (e j) (e j)) ∙ sym (square-at d i b)),
+    )

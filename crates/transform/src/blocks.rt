@@ -2,6 +2,7 @@
 // faster than one after each row.
 use crate::packed::divided;
 use crate::packed::gather;
+use crate::packed::gather_turned;
 use crate::packed::squares;
 use crate::packed::turn;
 use crate::packed::units;
@@ -100,9 +101,7 @@ fn turn_normal_block(l: Mat3, normals: &mut [f32], k: usize)
     ensures { λ _. ⌜ now (normals .exit) ≡ rowsFrom 3 (λ _. xyzTurned (mat3 l)) k (now (normals .entry)) 16 ⌝ }
 {
     let mut d = [0.0f32; 48];
-    gather(3, normals, k, &mut d);
-    turn(l, &mut d);
-    let r = float::sqrt_block(squares(&d));
+    let r = float::sqrt_block(gather_turned(l, 3, normals, k, &mut d));
     if r.normal {
         units(&mut d, r);
         put(&d, 3, normals, k);
@@ -118,8 +117,7 @@ fn turn_tangent_block(l: Mat3, tangents: &mut [f32], k: usize, d: &mut [f32; 48]
     ensures { λ _. ⌜ now (tangents .exit) ≡ rowsFrom 4 (λ _. xyzTurned (mat3 l)) k (now (tangents .entry)) 16 ⌝ }
 {
     gather(4, tangents, k, d);
-    turn(l, d);
-    let r = float::sqrt_block(squares(d));
+    let r = float::sqrt_block(turn(l, d));
     if r.normal {
         units(d, r);
         put(d, 4, tangents, k);

@@ -29,22 +29,41 @@ pub(crate) fn gather(w: usize, s: &[f32], k: usize, d: &mut [f32; 48])
     }
 }
 
-// l times each, in place.
-pub(crate) fn turn(l: Mat3, d: &mut [f32; 48])
-    ensures { λ _. ⌜ Packed 16 (λ i. turned (mat3 l) (row 3 (now (d .entry)) i)) (now (d .exit)) ⌝ }
-{
-    let mut i = 0usize;
-    while i < 16 {
-        let v = load3(d, i * 3);
-        store3(d, i * 3, scene::mul3(l, v));
-        i += 1;
-    }
-}
-
 fn square(v: Vec3) -> f32
     ensures { λ r. ⌜ r ≡ dot (vec3 v) (vec3 v) ⌝ }
 {
     v.x * v.x + v.y * v.y + v.z * v.z
+}
+
+// l times each, in place, and the squares of their lengths.
+pub(crate) fn turn(l: Mat3, d: &mut [f32; 48]) -> Block
+    ensures { λ r. ⌜ Packed 16 (λ i. turned (mat3 l) (row 3 (now (d .entry)) i)) (now (d .exit)) × (r .of ≡ squaresOf (now (d .exit))) ⌝ }
+{
+    let mut out = [0.0f32; 16];
+    let mut i = 0usize;
+    while i < 16 {
+        let v = scene::mul3(l, load3(d, i * 3));
+        store3(d, i * 3, v);
+        out[i] = square(v);
+        i += 1;
+    }
+    Block { of: out }
+}
+
+// l times the first three floats of rows k to k + 15, and the squares of their lengths.
+pub(crate) fn gather_turned(l: Mat3, w: usize, s: &[f32], k: usize, d: &mut [f32; 48]) -> Block
+    requires { ⌜ (3 ≤ w) × ((k + 16) * w ≤ length (now s)) ⌝ }
+    ensures { λ r. ⌜ Packed 16 (λ i. turned (mat3 l) (part (now (s .entry)) ((k + i) * w) 3)) (now (d .exit)) × (r .of ≡ squaresOf (now (d .exit))) ⌝ }
+{
+    let mut out = [0.0f32; 16];
+    let mut i = 0usize;
+    while i < 16 {
+        let v = scene::mul3(l, load3(s, (k + i) * w));
+        store3(d, i * 3, v);
+        out[i] = square(v);
+        i += 1;
+    }
+    Block { of: out }
 }
 
 // The squares of their lengths.
