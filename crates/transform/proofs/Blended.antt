@@ -16,9 +16,7 @@ use Rattle.model.specs.Vector.{Vector, _⊙_, _⊞_}
 use Rattle.model.specs.Matrix.{Matrix}
 use Rattle.model.specs.Vertices.{Influence, counted, influences, mixture, jointMatrix}
 use Rattle.model.proofs.ListLaws.{entry-there, entry-past}
-use Rattle.model.proofs.Rowwise.{rows-of, row-length, row-ends}
-use Rattle.scene.specs.Slots.{matrixIn}
-use Rattle.scene.proofs.Slotted.{lies-in}
+use Rattle.model.proofs.Rowwise.{rows-of, row-length}
 use Rattle.transform.specs.declared.influences.Blend.{Blend}
 use Rattle.transform.specs.Blending.{blended, Blends, Added}
 
@@ -78,7 +76,7 @@ module _ (palette : List Float) (j : ℕ) (w : Float) (b : Blend) where
   abbrev ours : List Influence
   ours = influences (rowsIn 16 palette) (j ∷ []) (w ∷ [])
 
-  pub counts-in : (r : Blend) (m : Matrix) → j < length palette / 16 → (finite w && lt zero32 w) ≡ true → m ≡ matrixIn palette (j * 16)
+  pub counts-in : (r : Blend) (m : Matrix) → j < length palette / 16 → (finite w && lt zero32 w) ≡ true → m ≡ row 16 palette j
       → r .any ≡ true → r .matrix .m ≡ b .matrix .m ⊞ w ⊙ m → Added (rowsIn 16 palette) j w b r
   unfolding influences
   counts-in r m h t e a s = record { more = λ is k. go is k }
@@ -94,7 +92,7 @@ module _ (palette : List Float) (j : ℕ) (w : Float) (b : Blend) where
         any = a ∙ sym (ap (λ (l : List Influence). isSome (mixture (is ++ l))) alone ∙ has-last is i);
         matrix =
             s
-            ∙ (λ x. k .matrix x ⊞ w ⊙ (e ∙ sym (lies-in palette (j * 16) (row-ends 16 palette j h))) x)
+            ∙ (λ x. k .matrix x ⊞ w ⊙ e x)
             ∙ sym (foldl-last (replicate 16 zero32) is i)
             ∙ sym (ap (λ (l : List Influence). foldl more (replicate 16 zero32) (is ++ l)) alone);
       }

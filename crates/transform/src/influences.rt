@@ -1,3 +1,4 @@
+use crate::rows::load16;
 use scene::Mat4;
 ghost use mathlib.Core.Path.{_≡_};
 ghost use mathlib.Core.Bool.{_&&_};
@@ -34,7 +35,7 @@ fn add_influence(b: Blend, palette: &[f32], j: usize, w: f32) -> Blend
 {
     if j < palette.len() / 16 {
         if counts(w) {
-            let matrix = scene::mat4_madd(b.matrix, w, scene::load(palette, j * 16));
+            let matrix = scene::mat4_madd(b.matrix, w, load16(palette, j * 16));
             return Blend { any: true, matrix };
         }
     }

@@ -1,3 +1,4 @@
+use scene::Mat4;
 use scene::Vec3;
 ghost use mathlib.Core.Path.{_≡_};
 ghost use Prim.Native.Nat.{_+_, _≤_};
@@ -33,6 +34,20 @@ pub(crate) fn load4(s: &[f32], at: usize) -> Tangent
         direction,
         handedness: s[at + 3],
     }
+}
+
+// As `scene::load` where the sixteen floats are there.
+pub(crate) fn load16(s: &[f32], at: usize) -> Mat4
+    requires { ⌜ at + 16 ≤ length (now s) ⌝ }
+    ensures { λ r. ⌜ r .m ≡ part (now (s .entry)) at 16 ⌝ }
+{
+    let mut out = [0.0f32; 16];
+    let mut k = 0usize;
+    while k < 16 {
+        out[k] = s[at + k];
+        k += 1;
+    }
+    Mat4 { m: out }
 }
 
 pub(crate) fn store3(s: &mut [f32], at: usize, v: Vec3)
