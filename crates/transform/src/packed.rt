@@ -1,5 +1,5 @@
-// Sixteen directions, copied out of their rows: three floats each, one after the other. Each loop over them does one thing to
-// packed floats, which is what makes it fast.
+// Sixteen directions, copied out of their rows: three floats each, one after the other. Short loops over packed floats run in
+// vector lanes.
 use crate::rows::load3;
 use crate::rows::store3;
 use float::Block;

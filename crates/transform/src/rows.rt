@@ -36,7 +36,7 @@ pub(crate) fn load4(s: &[f32], at: usize) -> Tangent
     }
 }
 
-// As `scene::load` where the sixteen floats are there.
+// `scene::load` without its look whether the sixteen floats are there.
 pub(crate) fn load16(s: &[f32], at: usize) -> Mat4
     requires { ⌜ at + 16 ≤ length (now s) ⌝ }
     ensures { λ r. ⌜ r .m ≡ part (now (s .entry)) at 16 ⌝ }
