@@ -32,11 +32,20 @@ pub fn compare() -> bool {
     differing == 0 && !names.is_empty()
 }
 
-fn files(folder: &Path, extension: &str) -> Vec<PathBuf> {
+/// What a folder holds, by name: no file system's order decides.
+fn entries(folder: &Path) -> Vec<PathBuf> {
     let entries = fs::read_dir(folder).unwrap_or_else(|e| panic!("{}: {e}", folder.display()));
-    let paths = entries.map(|entry| entry.expect("an entry of a folder").path());
-    let has_extension = |path: &PathBuf| path.extension().is_some_and(|e| e == extension);
-    paths.filter(has_extension).collect()
+    let mut paths: Vec<PathBuf> = entries
+        .map(|entry| entry.expect("an entry of a folder").path())
+        .collect();
+    paths.sort();
+    paths
+}
+
+fn files(folder: &Path, extension: &str) -> Vec<PathBuf> {
+    let mut paths = entries(folder);
+    paths.retain(|path| path.extension().is_some_and(|e| e == extension));
+    paths
 }
 
 fn read(path: &Path) -> String {

@@ -1,24 +1,27 @@
 //! The functions that the headers declare.
 
-use super::{enclosed, files, read, Functions, ROOT};
+use super::{enclosed, files, read, Functions, Signature, ROOT};
 use std::{collections::BTreeMap, path::Path};
 
+/// As written, with the names of structs in it: a header may use a struct that
+/// another one has, in whichever order they are read.
 #[derive(Default)]
 struct Declarations {
     /// By name, the types of the fields.
-    structs: BTreeMap<String, String>,
+    structs: BTreeMap<String, Vec<String>>,
     functions: Functions,
 }
 
 pub fn functions() -> Functions {
-    let mut headers = files(&Path::new(ROOT).join("include"), "h");
-    // entries.h has the structs that the others use.
-    headers.sort_by_key(|path| !path.ends_with("entries.h"));
     let mut declarations = Declarations::default();
-    for header in headers {
+    for header in files(&Path::new(ROOT).join("include"), "h") {
         declarations.read(&plain(&read(&header)));
     }
-    declarations.functions
+    let functions = declarations.functions.iter();
+    let resolved = |types: &Signature| types.iter().map(|name| declarations.resolved(name));
+    functions
+        .map(|(name, types)| (name.clone(), resolved(types).collect()))
+        .collect()
 }
 
 /// Without comments and lines of the preprocessor.
@@ -51,9 +54,11 @@ impl Declarations {
         let (fields, behind) = enclosed(text, '{', '}');
         let (name, behind) = behind.split_once(';').expect("the end of a struct");
         let fields = fields.split(';').filter(|field| !field.trim().is_empty());
-        let types: Vec<String> = fields.map(|field| self.type_of(field)).collect();
-        self.structs
-            .insert(name.trim().to_string(), types.join(","));
+        let name = name.trim();
+        let twice = self
+            .structs
+            .insert(name.to_string(), fields.map(type_of).collect());
+        assert!(twice.is_none(), "{name} is declared twice");
         behind
     }
 
@@ -62,22 +67,32 @@ impl Declarations {
         let head = text.split('(').next().expect("a function");
         let name = head.split_whitespace().last().expect("a name");
         let types = parameters.split(',').chain([head]);
-        let signature = types.map(|declared| self.type_of(declared)).collect();
-        let twice = self.functions.insert(name.to_string(), signature);
+        let twice = self
+            .functions
+            .insert(name.to_string(), types.map(type_of).collect());
         assert!(twice.is_none(), "{name} is declared twice");
         behind.trim_start().strip_prefix(';').expect("its end")
     }
 
-    /// Of a parameter, field or function, its name behind it.
-    fn type_of(&self, declared: &str) -> String {
-        let spaced = declared.replace('*', " * ");
-        let mut words: Vec<&str> = spaced.split_whitespace().collect();
-        let name = words.pop().expect("a name");
-        let array = name.find('[').map_or("", |at| &name[at..]);
-        let words = words.iter().map(|word| match self.structs.get(*word) {
-            Some(fields) => fields,
-            None => *word,
+    /// A type, with each struct in it by its fields.
+    fn resolved(&self, name: &str) -> String {
+        let (plain, array) = name.split_at(name.find('[').unwrap_or(name.len()));
+        let words = plain.split(' ').map(|word| match self.structs.get(word) {
+            Some(fields) => {
+                let types = fields.iter().map(|field| self.resolved(field));
+                types.collect::<Vec<_>>().join(",")
+            }
+            None => word.to_string(),
         });
         words.collect::<Vec<_>>().join(" ") + array
     }
+}
+
+/// The type of a parameter, field or function, its name behind it.
+fn type_of(declared: &str) -> String {
+    let spaced = declared.replace('*', " * ");
+    let mut words: Vec<&str> = spaced.split_whitespace().collect();
+    let name = words.pop().expect("a name");
+    let array = name.find('[').map_or("", |at| &name[at..]);
+    words.join(" ") + array
 }

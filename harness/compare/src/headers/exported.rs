@@ -1,10 +1,7 @@
 //! The functions that the crates export, with their types as C has them.
 
-use super::{enclosed, files, read, Functions, Signature, ROOT};
-use std::{
-    fs,
-    path::{Path, PathBuf},
-};
+use super::{enclosed, entries, files, read, Functions, Signature, ROOT};
+use std::path::{Path, PathBuf};
 
 const EXPORTED: &str = "pub extern \"C\" fn ";
 
@@ -15,9 +12,17 @@ struct Source {
 }
 
 pub fn functions() -> Functions {
-    let crates = fs::read_dir(Path::new(ROOT).join("crates")).expect("the crates");
-    let folders = crates.map(|entry| entry.expect("a crate").path().join("src"));
-    folders.flat_map(sources).flat_map(exports).collect()
+    let crates = entries(&Path::new(ROOT).join("crates")).into_iter();
+    let exported = crates
+        .map(|folder| folder.join("src"))
+        .flat_map(sources)
+        .flat_map(exports);
+    let mut functions = Functions::new();
+    for (name, signature) in exported {
+        let twice = functions.insert(name.clone(), signature);
+        assert!(twice.is_none(), "{name} is exported twice");
+    }
+    functions
 }
 
 fn sources(folder: PathBuf) -> impl Iterator<Item = Source> {
