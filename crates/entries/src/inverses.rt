@@ -12,7 +12,7 @@ pub extern "C" fn scene_linear_inverse_transpose(m: &[f32; 16], out: &mut [f32; 
     ensures { λ r. ⌜ Answered (inverseTranspose (now (m .entry))) (now (out .entry)) (now (out .exit)) r ⌝ }
 {
     let m = *m;
-    match scene::linear_inverse_transpose(Mat4 { m }) {
+    match inverse::linear_inverse_transpose(Mat4 { m }) {
         Linear::Of(l) => {
             *out = [
                 l.m00,
@@ -37,7 +37,7 @@ pub extern "C" fn scene_mat4_affine_inverse(m: &[f32; 16], out: &mut [f32; 16]) 
     ensures { λ r. ⌜ Answered (affineInverse (now (m .entry))) (now (out .entry)) (now (out .exit)) r ⌝ }
 {
     let m = *m;
-    match scene::mat4_affine_inverse(Mat4 { m }) {
+    match inverse::mat4_affine_inverse(Mat4 { m }) {
         Inverse::Of(e) => {
             *out = [
                 e.m00,
@@ -69,7 +69,7 @@ pub extern "C" fn scene_normal_matrix(m: &[f32; 16], out: &mut [f32; 9]) -> u32
     ensures { λ r. ⌜ Answered (normalMatrix (now (m .entry))) (now (out .entry)) (now (out .exit)) r ⌝ }
 {
     let m = *m;
-    match scene::normal_matrix(Mat4 { m }) {
+    match inverse::normal_matrix(Mat4 { m }) {
         Linear::Of(l) => {
             *out = [
                 l.m00,

@@ -114,7 +114,7 @@ fn any_root(x: f32) -> f32
     0.0 / 0.0
 }
 
-// A guess at the root of the significand of a, from the tables: a quadratic in its last 16 digits. Nothing is promised of it
+// A guess at the root of the significand of a, from the table: a quadratic in its last 16 digits. Nothing is promised of it
 // but that it is small.
 fn near(a: u64) -> u64
     requires { ⌜ a < 2 ^ 32 ⌝ }
@@ -122,9 +122,10 @@ fn near(a: u64) -> u64
 {
     let i = ((a >> 16) & 0xff) + 256;
     let d = a & 0xffff;
-    let b = crate::root_table::base(i);
-    let s = crate::root_table::slope(i);
-    let c = crate::root_table::bend(i);
+    let p = root_table::piece(i);
+    let b = p.0;
+    let s = p.1;
+    let c = p.2;
     (b + d * s - (d * d) * c) >> 38
 }
 

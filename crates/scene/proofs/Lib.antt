@@ -3,5 +3,3 @@ pub mod Arrays
 pub mod Products
 pub mod Slotted
 pub mod Turns
-pub mod Tested
-pub mod Inverted

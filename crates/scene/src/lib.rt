@@ -1,13 +1,9 @@
 // Matrices, quaternions and transforms: the port of scene.rs's transforms, and of the small matrix functions of skinning.rs
 // and transform.rs. Matrices are row by row, the translation in the fourth column.
-mod inverses;
 mod matrices;
 mod transforms;
 mod vectors;
 
-pub use inverses::linear_inverse_transpose;
-pub use inverses::mat4_affine_inverse;
-pub use inverses::normal_matrix;
 pub use matrices::affine_point;
 pub use matrices::identity;
 pub use matrices::linear_det;
@@ -18,6 +14,7 @@ pub use matrices::mat4_mul;
 pub use matrices::store;
 pub use matrices::transform_point;
 pub use transforms::entries_of;
+pub use transforms::entries_to_matrix;
 pub use transforms::from_matrix;
 pub use transforms::rot_matrix_to_quat;
 pub use transforms::to_matrix;

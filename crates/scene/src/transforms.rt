@@ -79,7 +79,7 @@ pub fn entries_of(m: Mat4) -> Entries
     }
 }
 
-pub(crate) fn entries_to_matrix(e: Entries) -> Mat4
+pub fn entries_to_matrix(e: Entries) -> Mat4
     ensures { λ r. ⌜ r .m ≡ mat4 e ⌝ }
 {
     Mat4 {

@@ -60,7 +60,7 @@ fn hold_normal(m: Mat4, whole: bool, normals: &[f32], v: usize, held: &mut [f32]
         store3(
             held,
             i * 3,
-            direction(scene::linear_inverse_transpose(m), n),
+            direction(inverse::linear_inverse_transpose(m), n),
         );
     }
 }

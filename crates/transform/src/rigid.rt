@@ -70,7 +70,7 @@ fn transform_tangents(l: Mat3, mirror: bool, tangents: &mut [f32])
 fn transform_directions(m: Mat4, normals: &mut [f32], tangents: &mut [f32])
     ensures { λ _. ⌜ TurnedAll (m .m) (now (normals .entry)) (now (normals .exit)) (now (tangents .entry)) (now (tangents .exit)) ⌝ }
 {
-    transform_normals(scene::normal_matrix(m), normals);
+    transform_normals(inverse::normal_matrix(m), normals);
     transform_tangents(scene::linear_part(m), scene::linear_det(m) < 0.0, tangents);
 }
 

@@ -18,7 +18,7 @@ ghost use Rattle.transform.specs.Blending.{blended, Turned, Skinned, Mov
 fn skin_directions(m: Mat4, normals: &mut [f32], tangents: &mut [f32], v: usize)
     ensures { λ _. ⌜ Turned (m .m) v (now (normals .entry)) (now (normals .exit)) (now (tangents .entry)) (now (tangents .exit)) ⌝ }
 {
-    turn_normal(scene::linear_inverse_transpose(m), normals, v);
+    turn_normal(inverse::linear_inverse_transpose(m), normals, v);
     turn_tangent(
         scene::linear_part(m),
         scene::linear_det(m) < 0.0,
