@@ -76,11 +76,11 @@ fn main() -> io::Result<ExitCode> {
     let arguments: Vec<&str> = arguments.iter().map(String::as_str).collect();
     match arguments[..] {
         ["gate"] => return Ok(status(gate(""))),
-        ["gate", area] => return Ok(status(gate(area))),
+        ["gate", area] if is_name(area, &AREAS) => return Ok(status(gate(area))),
         ["long"] => return Ok(status(bakes::compare_long())),
         ["roots"] => return Ok(status(leaves::roots::compare_all())),
         ["speed"] => speed(""),
-        ["speed", area] => speed(area),
+        ["speed", area] if is_name(area, &SPEEDS) => speed(area),
         ["list"] => list::write(&mut io::stdout().lock())?,
         ["list", "samples"] => sampling::list::write(&mut io::stdout().lock())?,
         ["list", "published"] => list::published::write(&mut io::stdout().lock())?,
@@ -91,6 +91,10 @@ fn main() -> io::Result<ExitCode> {
         }
     }
     Ok(ExitCode::SUCCESS)
+}
+
+fn is_name<T>(area: &str, areas: &[(&str, T)]) -> bool {
+    areas.iter().any(|(name, _)| *name == area)
 }
 
 fn status(equal: bool) -> ExitCode {

@@ -17,10 +17,13 @@ pub fn functions() -> Functions {
     for header in files(&Path::new(ROOT).join("include"), "h") {
         declarations.read(&plain(&read(&header)));
     }
+    let signature = |types: &Signature| -> Signature {
+        let types = types.iter().map(|name| declarations.resolved(name));
+        types.collect()
+    };
     let functions = declarations.functions.iter();
-    let resolved = |types: &Signature| types.iter().map(|name| declarations.resolved(name));
     functions
-        .map(|(name, types)| (name.clone(), resolved(types).collect()))
+        .map(|(name, types)| (name.clone(), signature(types)))
         .collect()
 }
 
