@@ -24,7 +24,7 @@ fn skinned_agree(positions: &mut [f32], normals: &mut [f32], tangents: &mut [f32
     let p = lists::read_floats(&mut palette);
     let j = lists::read_words(&mut joints);
     let w = lists::read_floats(&mut weights);
-    transform::skinned(
+    skinning::skinned(
         &palette[..p],
         &joints[..j],
         &weights[..w],

@@ -30,7 +30,7 @@ fn place_shape(
     let joints = row.joints;
     let weights = row.weights;
     if has_palette & tables::is_marked(joints.mark) & tables::is_marked(weights.mark) {
-        transform::skinned(
+        skinning::skinned(
             palette,
             tables::words_in(words, joints.part, 4),
             tables::floats_in(floats, weights.part, 4),

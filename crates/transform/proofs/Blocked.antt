@@ -20,12 +20,12 @@ use Rattle.model.specs.Matrix.{turned}
 use Rattle.model.specs.Vertices.{turnedUnit}
 use Rattle.model.specs.Attributes.{overRows}
 use Rattle.model.proofs.Rowwise.{row-ends, row-length}
-use Rattle.transform.specs.Rows.{rowChanged, firstRows}
+use Rattle.vertex_rows.specs.Rows.{rowChanged, firstRows}
 use Rattle.transform.specs.Blocks.{xyzTurned, begun, unitOver, rowsFrom, Packed, squaresOf}
 use Rattle.scene.proofs.Lengths.{has-length}
 use Rattle.transform.proofs.Packing.{lengths-taken, number-at, root-at}
-use Rattle.transform.proofs.RowSteps.{row-changed, each-done}
-use Rattle.transform.proofs.RowLengths.{unit-length}
+use Rattle.vertex_rows.proofs.RowSteps.{row-changed, each-done}
+use Rattle.vertex_rows.proofs.RowLengths.{unit-length}
 
 -- ---- one row
 pub row-alike : (w : ℕ) (f g : Vector → Vector) (k : ℕ) (l : List Float) → f (row w l k) ≡ g (row w l k) → rowChanged w f k l ≡ rowChanged w g k l

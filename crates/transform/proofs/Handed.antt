@@ -4,19 +4,26 @@ use mathlib.Core.Bool.{Bool, true, false, not}
 use mathlib.Core.List.{List, [], _∷_, _++_, map, append-nil}
 use Prim.Native.Nat.{ℕ, _+_, _/_}
 use native.Mathlib.Omega.{arith}
-use lib.Ieee.{Float, nan, neg}
+use lib.Ieee.{Float, nan, neg, lt}
 use lib.ListN.{length, getD, take, drop, length-append, length-take}
 use lib.Seq.{take-all, take-at, drop-length, getD-append-seam}
+use Rattle.float.specs.F32.{zero32}
 use Rattle.model.specs.Lists.{tabulate, row, rowsIn}
 use Rattle.model.specs.Vector.{Vector, at}
-use Rattle.model.specs.Vertices.{turnedUnit}
+use Rattle.model.specs.Matrix.{Matrix, linear, determinant}
+use Rattle.model.specs.Vertices.{turnedUnit, turnedNormal, turnedTangent}
 use Rattle.model.specs.Attributes.{overRows}
 use Rattle.model.proofs.ListLaws.{length-tabulate}
 use Rattle.model.proofs.RowLaws.{Rows}
 use Rattle.model.proofs.Rowwise.{rows-of, row-length, map-tabulate, tabulate-alike, each-tabulated, rows-over, over-again}
-use Rattle.transform.specs.Rows.{tangentBy}
-use Rattle.transform.specs.Blocks.{xyzTurned, flipped}
-use Rattle.transform.proofs.RowLengths.{unit-length}
+use Rattle.scene.specs.Values.{mat3, linearOf}
+use Rattle.scene.specs.declared.Mat3.{Mat3}
+use Rattle.scene.specs.declared.Linear.{Linear}
+use Rattle.scene.specs.declared.Linear.the-variants as linear
+use Rattle.vertex_rows.specs.Rows.{tangentBy, flipped}
+use Rattle.vertex_rows.proofs.RowSteps.{each-kept}
+use Rattle.vertex_rows.proofs.RowLengths.{unit-length}
+use Rattle.transform.specs.Blocks.{xyzTurned}
 use Rattle.transform.proofs.Blocked.{xyz-length}
 
 -- rows by two rules that agree on rows
@@ -95,3 +102,19 @@ module _ (m lent here : List Float) (mirror : Bool) (turns : here ≡ overRows 4
       mirrors : (b : Bool) → not b ≡ false → true ≡ b
       mirrors true e = refl
       mirrors false e = e
+
+-- normals by a normal matrix n
+module _ (n : Linear) (lent : List Float) where
+  pub normals-turned : (l : Mat3) (left : List Float) → n ≡ linear.Of l → left ≡ overRows 3 (map (xyzTurned (mat3 l)) (rowsIn 3 lent)) lent → left ≡ overRows 3 (map (turnedNormal (linearOf n)) (rowsIn 3 lent)) lent
+  normals-turned l left e p =
+      p
+      ∙ ap (λ (r : List Vector). overRows 3 r lent) (rows-alike 3 (xyzTurned (mat3 l)) (turnedUnit (mat3 l)) lent (three (mat3 l)))
+      ∙ sym (ap (λ (x : Linear). overRows 3 (map (turnedNormal (linearOf x)) (rowsIn 3 lent)) lent) e)
+
+  pub normals-left : n ≡ linear.None → lent ≡ overRows 3 (map (turnedNormal (linearOf n)) (rowsIn 3 lent)) lent
+  normals-left e = each-kept 3 lent ∙ sym (ap (λ (x : Linear). overRows 3 (map (turnedNormal (linearOf x)) (rowsIn 3 lent)) lent) e)
+
+-- tangents by the linear part l of m and its determinant d
+pub tangent-by : (m : Matrix) (l : List Float) (d : Float) → l ≡ linear m → d ≡ determinant m → tangentBy l (lt d zero32) ≡ turnedTangent m
+unfolding tangentBy turnedTangent
+tangent-by m l d p q = (λ j v. tangentBy (p j) (lt (q j) zero32) v)

@@ -1,13 +1,3 @@
-pub mod RowAccess
-pub mod RowSteps
-pub mod RowLengths
 pub mod Packing
 pub mod Blocked
-pub mod Composed
 pub mod Handed
-pub mod HeldBack
-pub mod Turned
-pub mod Blended
-pub mod Moved
-pub mod HeldSteps
-pub mod Plain

@@ -1,13 +1,13 @@
 -- Directions that begin the rows of a slice, turned in blocks of sixteen. Definitions only.
 use mathlib.Core.Path.{_≡_}
-use mathlib.Core.List.{List, [], _∷_, _++_}
+use mathlib.Core.List.{List, _++_}
 use Prim.Native.Nat.{ℕ, zero, suc, _+_, _<_}
-use lib.Ieee.{Float, neg}
+use lib.Ieee.{Float}
 use lib.ListN.{take, drop}
 use Rattle.model.specs.Lists.{tabulate, row, orElse}
-use Rattle.model.specs.Vector.{Vector, at, dot, norm, normalized}
+use Rattle.model.specs.Vector.{Vector, dot, norm, normalized}
 use Rattle.model.specs.Vertices.{turnedUnit}
-use Rattle.transform.specs.Rows.{rowChanged}
+use Rattle.vertex_rows.specs.Rows.{rowChanged}
 
 -- the first three floats of a row by a linear part; the others as they are
 unfoldable pub xyzTurned : List Float → Vector → Vector
@@ -20,10 +20,6 @@ begun x v = x ++ drop 3 v
 -- with the direction d divided by its length, if it has one
 unfoldable pub unitOver : Vector → Vector → Vector
 unitOver d v = begun (orElse (normalized d) (take 3 v)) v
-
--- a tangent with the other handedness
-unfoldable pub flipped : Vector → Vector
-flipped v = take 3 v ++ (neg (at v 3) ∷ [])
 
 -- a slice with n rows from row k on changed, row k + i by f i, one after the other
 unfoldable pub rowsFrom : ℕ → (ℕ → Vector → Vector) → ℕ → List Float → ℕ → List Float

@@ -1,4 +1,2 @@
-pub mod Rows
 pub mod Blocks
-pub mod Blending
-pub mod Holding
+pub mod Rigid

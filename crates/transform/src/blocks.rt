@@ -1,16 +1,16 @@
-// Directions in rows of three or four floats, turned in blocks of sixteen: the roots of a block are taken together, which is
-// faster than one after each row.
+// Directions in rows of three or four floats, turned in blocks of sixteen: the roots of a block are taken together,
+// which is faster than one after each row.
 use crate::packed::divided;
 use crate::packed::gather;
 use crate::packed::gather_turned;
 use crate::packed::squares;
 use crate::packed::turn;
 use crate::packed::units;
-use crate::rows::load3;
-use crate::rows::store3;
 use float::Roots;
 use scene::Mat3;
 use scene::Vec3;
+use vertex_rows::load3;
+use vertex_rows::store3;
 ghost use mathlib.Core.Path.{_≡_};
 ghost use mathlib.Core.List.{map};
 ghost use Prim.Native.Nat.{_+_, _-_, _*_, _/_, _≤_, _<_};
@@ -19,7 +19,7 @@ ghost use Rattle.model.specs.Lists.{orElse, row, rowsIn};
 ghost use Rattle.model.specs.Vector.{norm, normalized};
 ghost use Rattle.model.specs.Attributes.{overRows};
 ghost use Rattle.scene.specs.Values.{vec3, mat3};
-ghost use Rattle.transform.specs.Rows.{rowChanged, firstRows};
+ghost use Rattle.vertex_rows.specs.Rows.{rowChanged, firstRows};
 ghost use Rattle.transform.specs.Blocks.{xyzTurned, begun, unitOver, rowsFrom, lengthsOf};
 
 // The direction d divided by its length, which is given; v where there is no length to divide by.
@@ -77,9 +77,9 @@ fn put(d: &[f32; 48], w: usize, s: &mut [f32], k: usize)
     }
 }
 
-// Puts the directions, each divided by its length, in rows k to k + 15; where one has none, the row stays. They are divided in
-// place.
-pub(crate) fn put_units(d: &mut [f32; 48], w: usize, s: &mut [f32], k: usize)
+// Puts the directions, each divided by its length, in rows k to k + 15; where one has none, the row stays. They are
+// divided in place.
+pub fn put_units(d: &mut [f32; 48], w: usize, s: &mut [f32], k: usize)
     requires { ⌜ (3 ≤ w) × ((k + 16) * w ≤ length (now s)) ⌝ }
     ensures { λ _. ⌜ now (s .exit) ≡ rowsFrom w (λ i. unitOver (row 3 (now (d .entry)) i)) k (now (s .entry)) 16 ⌝ }
 {
@@ -92,8 +92,8 @@ pub(crate) fn put_units(d: &mut [f32; 48], w: usize, s: &mut [f32], k: usize)
     put_each(d, r, w, s, k);
 }
 
-// The two below have the width written out: loops over rows of a width that is not known until they run are not turned into
-// vector lanes.
+// The two below have the width written out: loops over rows of a width that is not known until they run are not turned
+// into vector lanes.
 
 // Turns normals k to k + 15.
 fn turn_normal_block(l: Mat3, normals: &mut [f32], k: usize)
@@ -110,8 +110,8 @@ fn turn_normal_block(l: Mat3, normals: &mut [f32], k: usize)
     put_each(&d, r, 3, normals, k);
 }
 
-// Turns tangents k to k + 15. d is only room for their directions. It is lent, since an array of its own would be seen to end
-// here: the divisions would then be done row by row as they are stored, and not four at once.
+// Turns tangents k to k + 15. d is only room for their directions. It is lent, since an array of its own would be seen
+// to end here: the divisions would then be done row by row as they are stored, and not four at once.
 fn turn_tangent_block(l: Mat3, tangents: &mut [f32], k: usize, d: &mut [f32; 48])
     requires { ⌜ (k + 16) * 4 ≤ length (now tangents) ⌝ }
     ensures { λ _. ⌜ now (tangents .exit) ≡ rowsFrom 4 (λ _. xyzTurned (mat3 l)) k (now (tangents .entry)) 16 ⌝ }

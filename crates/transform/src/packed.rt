@@ -1,11 +1,11 @@
-// Sixteen directions, copied out of their rows: three floats each, one after the other. Short loops over packed floats run in
-// vector lanes.
-use crate::rows::load3;
-use crate::rows::store3;
+// Sixteen directions, copied out of their rows: three floats each, one after the other. Short loops over packed floats
+// run in vector lanes.
 use float::Block;
 use float::Roots;
 use scene::Mat3;
 use scene::Vec3;
+use vertex_rows::load3;
+use vertex_rows::store3;
 ghost use mathlib.Core.Path.{_≡_};
 ghost use Prim.Native.Nat.{_+_, _*_, _≤_};
 ghost use lib.Ieee.{nan};

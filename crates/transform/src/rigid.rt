@@ -1,19 +1,17 @@
 use crate::blocks::turn_rows;
-use crate::positions::transform_positions;
-use crate::rows::Tangent;
-use crate::rows::load4;
-use crate::rows::store4;
 use scene::Linear;
 use scene::Mat3;
 use scene::Mat4;
+use vertex_rows::flip_tangent;
+use vertex_rows::transform_positions;
 ghost use mathlib.Core.Path.{_≡_};
 ghost use mathlib.Core.List.{map};
 ghost use Rattle.model.specs.Lists.{rowsIn};
 ghost use Rattle.model.specs.Vertices.{turnedNormal, transformed};
 ghost use Rattle.model.specs.Attributes.{attributesIn, overRows, Reshaped};
 ghost use Rattle.scene.specs.Values.{mat3, linearOf};
-ghost use Rattle.transform.specs.Rows.{tangent, tangentBy, rowChanged, TurnedAll};
-ghost use Rattle.transform.specs.Blocks.{flipped};
+ghost use Rattle.vertex_rows.specs.Rows.{tangentBy, flipped};
+ghost use Rattle.transform.specs.Rigid.{TurnedAll};
 
 // Turns all normals by the normal matrix, if there is one.
 fn transform_normals(n: Linear, normals: &mut [f32])
@@ -22,26 +20,6 @@ fn transform_normals(n: Linear, normals: &mut [f32])
     match n {
         Linear::Of(l) => turn_rows(l, 3, normals),
         Linear::None => {}
-    }
-}
-
-fn flip(t: Tangent) -> Tangent
-    ensures { λ r. ⌜ tangent r ≡ flipped (tangent t) ⌝ }
-{
-    let direction = t.direction;
-    Tangent {
-        direction,
-        handedness: -t.handedness,
-    }
-}
-
-// Flips the handedness of tangent k, if there is one.
-pub(crate) fn flip_tangent(tangents: &mut [f32], k: usize)
-    ensures { λ _. ⌜ now (tangents .exit) ≡ rowChanged 4 flipped k (now (tangents .entry)) ⌝ }
-{
-    if k < tangents.len() / 4 {
-        let t = load4(tangents, k * 4);
-        store4(tangents, k * 4, flip(t));
     }
 }
 
@@ -74,8 +52,8 @@ fn transform_directions(m: Mat4, normals: &mut [f32], tangents: &mut [f32])
     transform_tangents(scene::linear_part(m), scene::linear_det(m) < 0.0, tangents);
 }
 
-// Moves all vertices by m: positions with the perspective division, normals by the normal matrix, tangents by the linear
-// part. An attribute that is absent has an empty slice.
+// Moves all vertices by m: positions with the perspective division, normals by the normal matrix, tangents by the
+// linear part. An attribute that is absent has an empty slice.
 pub fn transformed(m: Mat4, positions: &mut [f32], normals: &mut [f32], tangents: &mut [f32])
     ensures { λ _. ⌜ Reshaped (transformed (m .m) (attributesIn (now (positions .entry)) (now (normals .entry)) (now (tangents .entry)))) (now (positions .entry)) (now (positions .exit)) (now (normals .entry)) (now (normals .exit)) (now (tangents .entry)) (now (tangents .exit)) ⌝ }
 {

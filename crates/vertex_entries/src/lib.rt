@@ -30,5 +30,5 @@ pub extern "C" fn skinned_floats(
 )
     ensures { λ _. ⌜ Reshaped (skinned (rowsIn 16 (now (palette .entry))) (rowsIn 4 (now (joints .entry))) (rowsIn 4 (now (weights .entry))) (attributesIn (now (positions .entry)) (now (normals .entry)) (now (tangents .entry)))) (now (positions .entry)) (now (positions .exit)) (now (normals .entry)) (now (normals .exit)) (now (tangents .entry)) (now (tangents .exit)) ⌝ }
 {
-    transform::skinned(palette, joints, weights, positions, normals, tangents);
+    skinning::skinned(palette, joints, weights, positions, normals, tangents);
 }

@@ -6,7 +6,7 @@ use denote.Ref.{now}
 use lib.ListN.{length}
 use Rattle.model.specs.Lists.{row}
 use Rattle.model.specs.Vector.{Vector}
-use Rattle.transform.specs.Rows.{rowChanged}
+use Rattle.vertex_rows.specs.Rows.{rowChanged}
 use Rattle.transform.specs.Blocks.{begun, rowsFrom}
 use Rattle.transform.proofs.Blocked.{in-block, row-number, has-row, next-from}
 use borrow.Author.Needs.{needs}

@@ -6,7 +6,7 @@ use native.Mathlib.Omega.{arith}
 use denote.Ref.{now}
 use lib.ListN.{length}
 use Rattle.scene.specs.Values.{mat3}
-use Rattle.transform.specs.Rows.{firstRows}
+use Rattle.vertex_rows.specs.Rows.{firstRows}
 use Rattle.transform.specs.Blocks.{xyzTurned}
 use Rattle.transform.proofs.Blocked.{block-fits, next-block}
 use borrow.Author.Needs.{needs}

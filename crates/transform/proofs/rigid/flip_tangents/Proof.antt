@@ -7,10 +7,9 @@ use denote.Ref.{now}
 use lib.ListN.{length}
 use Rattle.model.specs.Lists.{row}
 use Rattle.model.proofs.Rowwise.{row-length}
-use Rattle.transform.specs.Rows.{firstRows}
-use Rattle.transform.specs.Blocks.{flipped}
+use Rattle.vertex_rows.specs.Rows.{flipped, firstRows}
 use Rattle.transform.proofs.Handed.{flipped-length}
-use Rattle.transform.proofs.RowSteps.{next-done, each-done}
+use Rattle.vertex_rows.proofs.RowSteps.{next-done, each-done}
 use Rattle.transform.proofs.rigid.flip_tangents.Statement.{statement}
 use Rattle.transform.proofs.rigid.flip_tangents.Tie as tie
 

@@ -1,6 +1,6 @@
 -- `transform::rigid::transform_normals` meets its contract. Assumes nothing.
 use borrow.Author.Needs.{needs}
-use Rattle.transform.proofs.Turned.{normals-turned, normals-left}
+use Rattle.transform.proofs.Handed.{normals-turned, normals-left}
 use Rattle.transform.proofs.rigid.transform_normals.Statement.{statement}
 use Rattle.transform.proofs.rigid.transform_normals.Tie as tie
 

@@ -1,0 +1,4 @@
+pub mod Composed
+pub mod HeldBack
+pub mod Moved
+pub mod HeldSteps

@@ -1,0 +1,24 @@
+-- `vertex_rows::positions::move_position` meets its contract. Assumes nothing.
+use Rattle.vertex_rows.proofs.RowSteps.{row-changed, row-absent}
+use borrow.Author.Needs.{needs}
+use Rattle.vertex_rows.proofs.positions.move_position.Statement.{statement}
+use Rattle.vertex_rows.proofs.positions.move_position.Tie as tie
+
+returns : tie.Need-returns
+returns c = search (needs, row-changed)
+
+returns-2 : tie.Need-returns-2
+returns-2 c = search (needs, row-absent)
+
+pub move-position-spec : {M : Type 1} → statement M
+move-position-spec =
+    tie.close
+    (tie.spec
+    (λ c. search needs)
+    (λ c κs. search needs)
+    (λ c. search needs)
+    (λ c κs. search needs)
+    (λ c κs. search needs)
+    (λ c. search needs)
+    returns
+    returns-2)
