@@ -1,9 +1,9 @@
-use crate::decoding::bake_decoded;
 use bake::Answer;
+use byte_rooms::bake_decoded;
 use tables::Header;
 ghost use lib.Ieee.{binary32, ofBits};
 ghost use Rattle.lent_bytes.specs.Bytes.{lentIn, drawnIn};
-ghost use Rattle.byte_bake.specs.Baked.{BakedBytes};
+ghost use Rattle.byte_rooms.specs.Baked.{BakedBytes};
 
 // The mesh of a node in the world at the time with the given bit pattern, as `bake_floats` says it, on bytes. A slice of the
 // scene of more than its local array holds is over size, 2. Answers 1, 2, 3, 5 to 10 or 0. What the scratch room and the

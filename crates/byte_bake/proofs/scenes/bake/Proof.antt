@@ -2,7 +2,7 @@
 use mathlib.Core.Path.{sym, _∙_}
 use borrow.Author.Needs.{needs}
 use Rattle.lent_bytes.proofs.Decoding.{drawn-over, decoded-whole}
-use Rattle.byte_bake.proofs.Tables.{same-drawn, refused-over}
+use Rattle.byte_rooms.proofs.Tables.{same-drawn, refused-over}
 use Rattle.byte_bake.proofs.scenes.bake.Statement.{statement}
 use Rattle.byte_bake.proofs.scenes.bake.Tie as tie
 

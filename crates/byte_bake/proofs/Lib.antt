@@ -1,4 +1,0 @@
-pub mod Numbers
-pub mod Starting
-pub mod Delivering
-pub mod Tables

@@ -1,0 +1,2 @@
+pub mod Baked
+pub mod Used

@@ -1,0 +1,145 @@
+// How much of each local array of a bake is written back to bytes, and the writing.
+use bake::Answer;
+ghost use mathlib.Core.Path.{_≡_};
+ghost use Prim.Native.Nat.{_≤_};
+ghost use Rattle.byte_writing.specs.Bytes.{ByteSlices, ByteOutput, ByteRoom, withScratch, withOutput, withRoom};
+ghost use Rattle.byte_writing.specs.Writing.{whenLeft, amountsOf, scratchStart, outputStart, roomStart, ScratchFits, OutputFits};
+
+// In words and floats.
+pub struct Amounts {
+    marks: usize,
+    slots: usize,
+    walk: usize,
+    places: usize,
+    worlds: usize,
+    positions: usize,
+    normals: usize,
+    tangents: usize,
+}
+
+// n where the call changed the scratch room: answered 0, or a number past 7.
+fn when_left(number: u32, n: usize) -> usize
+    ensures { λ r. ⌜ r ≡ whenLeft number n ⌝ }
+{
+    if number == 0 {
+        return n;
+    }
+    if 7 < number {
+        return n;
+    }
+    0
+}
+
+pub fn amounts_of(a: Answer, nodes: usize, steps: usize) -> Amounts
+    requires { ⌜ whenLeft (a .number) nodes ≤ 1024 ⌝ }
+    ensures { λ r. ⌜ r ≡ amountsOf a nodes steps ⌝ }
+{
+    let number = a.number;
+    let n = when_left(number, nodes);
+    Amounts {
+        marks: n * 4,
+        slots: n * 10,
+        walk: when_left(number, steps),
+        places: n,
+        worlds: n * 16,
+        positions: a.positions,
+        normals: a.normals,
+        tangents: a.tangents,
+    }
+}
+
+fn write_scratch(
+    n: Amounts,
+    marks: &[u32],
+    slots: &[f32],
+    walk: &[u32],
+    places: &[u32],
+    worlds: &[f32],
+    mark_bytes: &mut [u8],
+    slot_bytes: &mut [u8],
+    walk_bytes: &mut [u8],
+    place_bytes: &mut [u8],
+    world_bytes: &mut [u8],
+)
+    requires { ⌜ ScratchFits n (record { marks = now marks; slots = now slots; walk = now walk; places = now places; worlds = now worlds }) (record { marks = now «mark_bytes»; slots = now «slot_bytes»; walk = now «walk_bytes»; places = now «place_bytes»; worlds = now «world_bytes» }) ⌝ }
+    ensures { λ _. ⌜ _≡_ {A = ByteSlices} (record { marks = now («mark_bytes» .exit); slots = now («slot_bytes» .exit); walk = now («walk_bytes» .exit); places = now («place_bytes» .exit); worlds = now («world_bytes» .exit) }) (withScratch (scratchStart n (record { marks = now (marks .entry); slots = now (slots .entry); walk = now (walk .entry); places = now (places .entry); worlds = now (worlds .entry) })) (record { marks = now («mark_bytes» .entry); slots = now («slot_bytes» .entry); walk = now («walk_bytes» .entry); places = now («place_bytes» .entry); worlds = now («world_bytes» .entry) })) ⌝ }
+{
+    let m = n.marks;
+    let s = n.slots;
+    let w = n.walk;
+    let p = n.places;
+    let q = n.worlds;
+    wire::write_words(&marks[..m], mark_bytes);
+    wire::write_floats(&slots[..s], slot_bytes);
+    wire::write_words(&walk[..w], walk_bytes);
+    wire::write_words(&places[..p], place_bytes);
+    wire::write_floats(&worlds[..q], world_bytes);
+}
+
+fn write_outputs(
+    n: Amounts,
+    positions: &[f32],
+    normals: &[f32],
+    tangents: &[f32],
+    position_bytes: &mut [u8],
+    normal_bytes: &mut [u8],
+    tangent_bytes: &mut [u8],
+)
+    requires { ⌜ OutputFits n (record { positions = now positions; normals = now normals; tangents = now tangents }) (record { positions = now «position_bytes»; normals = now «normal_bytes»; tangents = now «tangent_bytes» }) ⌝ }
+    ensures { λ _. ⌜ _≡_ {A = ByteOutput} (record { positions = now («position_bytes» .exit); normals = now («normal_bytes» .exit); tangents = now («tangent_bytes» .exit) }) (withOutput (outputStart n (record { positions = now (positions .entry); normals = now (normals .entry); tangents = now (tangents .entry) })) (record { positions = now («position_bytes» .entry); normals = now («normal_bytes» .entry); tangents = now («tangent_bytes» .entry) })) ⌝ }
+{
+    let p = n.positions;
+    let q = n.normals;
+    let t = n.tangents;
+    wire::write_floats(&positions[..p], position_bytes);
+    wire::write_floats(&normals[..q], normal_bytes);
+    wire::write_floats(&tangents[..t], tangent_bytes);
+}
+
+// Writes the start of each array to the start of its bytes.
+pub fn write_back(
+    n: Amounts,
+    marks: &[u32],
+    slots: &[f32],
+    walk: &[u32],
+    places: &[u32],
+    worlds: &[f32],
+    positions: &[f32],
+    normals: &[f32],
+    tangents: &[f32],
+    mark_bytes: &mut [u8],
+    slot_bytes: &mut [u8],
+    walk_bytes: &mut [u8],
+    place_bytes: &mut [u8],
+    world_bytes: &mut [u8],
+    position_bytes: &mut [u8],
+    normal_bytes: &mut [u8],
+    tangent_bytes: &mut [u8],
+)
+    requires { ⌜ ScratchFits n (record { marks = now marks; slots = now slots; walk = now walk; places = now places; worlds = now worlds }) (record { marks = now «mark_bytes»; slots = now «slot_bytes»; walk = now «walk_bytes»; places = now «place_bytes»; worlds = now «world_bytes» }) ⌝ }
+    requires { ⌜ OutputFits n (record { positions = now positions; normals = now normals; tangents = now tangents }) (record { positions = now «position_bytes»; normals = now «normal_bytes»; tangents = now «tangent_bytes» }) ⌝ }
+    ensures { λ _. ⌜ _≡_ {A = ByteRoom} (record { scratch = record { marks = now («mark_bytes» .exit); slots = now («slot_bytes» .exit); walk = now («walk_bytes» .exit); places = now («place_bytes» .exit); worlds = now («world_bytes» .exit) }; output = record { positions = now («position_bytes» .exit); normals = now («normal_bytes» .exit); tangents = now («tangent_bytes» .exit) } }) (withRoom (roomStart n (record { scratch = record { marks = now (marks .entry); slots = now (slots .entry); walk = now (walk .entry); places = now (places .entry); worlds = now (worlds .entry) }; output = record { positions = now (positions .entry); normals = now (normals .entry); tangents = now (tangents .entry) } })) (record { scratch = record { marks = now («mark_bytes» .entry); slots = now («slot_bytes» .entry); walk = now («walk_bytes» .entry); places = now («place_bytes» .entry); worlds = now («world_bytes» .entry) }; output = record { positions = now («position_bytes» .entry); normals = now («normal_bytes» .entry); tangents = now («tangent_bytes» .entry) } })) ⌝ }
+{
+    write_scratch(
+        n,
+        marks,
+        slots,
+        walk,
+        places,
+        worlds,
+        mark_bytes,
+        slot_bytes,
+        walk_bytes,
+        place_bytes,
+        world_bytes,
+    );
+    write_outputs(
+        n,
+        positions,
+        normals,
+        tangents,
+        position_bytes,
+        normal_bytes,
+        tangent_bytes,
+    );
+}
