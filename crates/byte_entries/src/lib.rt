@@ -1,6 +1,4 @@
 // The C functions on scenes that are lent in bytes (`rt staticlib byte_entries`): little-endian words and floats.
-mod decoding;
-mod rooms;
 mod scenes;
 
 pub use scenes::place;

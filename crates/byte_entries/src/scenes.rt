@@ -1,8 +1,8 @@
-use crate::decoding::place_decoded;
+use byte_placing::place_decoded;
 use tables::Header;
 use worlds::Answer;
 ghost use Rattle.lent_bytes.specs.Bytes.{lentIn, drawnIn};
-ghost use Rattle.byte_entries.specs.Placed.{marksIn, slotsIn, PlacedBytes};
+ghost use Rattle.local_placing.specs.Placed.{marksIn, slotsIn, PlacedBytes};
 
 // Where every node stands in a given pose, as `place_floats` says it, on bytes. A slice of the scene of more than its local
 // array holds is over size, 2. Answers 1, 2, 6 or 0, and the entries taken.

@@ -1,11 +1,11 @@
--- `byte_entries::rooms::place_over` meets its contract. Assumes nothing.
+-- `local_placing::place_over` meets its contract. Assumes nothing.
 use mathlib.Core.Path.{_≡_}
 use borrow.Author.Needs.{needs}
 use denote.Ref.{now}
 use lib.ListN.{length}
-use Rattle.byte_entries.proofs.Delivering.{refused, fits, accepted}
-use Rattle.byte_entries.proofs.rooms.place_over.Statement.{statement}
-use Rattle.byte_entries.proofs.rooms.place_over.Tie as tie
+use Rattle.local_placing.proofs.Delivering.{refused, fits, accepted}
+use Rattle.local_placing.proofs.place_over.Statement.{statement}
+use Rattle.local_placing.proofs.place_over.Tie as tie
 
 returns : tie.Need-returns
 returns c =

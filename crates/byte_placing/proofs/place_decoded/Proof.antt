@@ -1,4 +1,4 @@
--- `byte_entries::decoding::place_decoded` meets its contract. Assumes nothing.
+-- `byte_placing::place_decoded` meets its contract. Assumes nothing.
 use mathlib.Core.Path.{sym}
 use borrow.Author.Needs.{needs}
 use denote.Ref.{now}
@@ -9,9 +9,9 @@ use Rattle.wire.specs.Bytes.{floatsIn}
 use Rattle.checks.specs.Drawn.{lentAs}
 use Rattle.lent_bytes.specs.Bytes.{floatLimit}
 use Rattle.lent_bytes.proofs.Decoding.{read-into}
-use Rattle.byte_entries.proofs.Tables.{same-scene}
-use Rattle.byte_entries.proofs.decoding.place_decoded.Statement.{statement}
-use Rattle.byte_entries.proofs.decoding.place_decoded.Tie as tie
+use Rattle.byte_placing.proofs.Tables.{same-scene}
+use Rattle.byte_placing.proofs.place_decoded.Statement.{statement}
+use Rattle.byte_placing.proofs.place_decoded.Tie as tie
 
 slice-aggregate-place-weights : tie.Need-slice-aggregate-place-weights
 slice-aggregate-place-weights c = sym (length-take-le _ _ (search needs))

@@ -9,7 +9,7 @@ ghost use Prim.Native.Nat.{_*_, _≤_};
 ghost use lib.ListN.{length};
 ghost use Rattle.checks.specs.Drawn.{lentAs, tablesNumber};
 ghost use Rattle.lent_bytes.specs.Bytes.{walkLimit, codeLimit, worldLimit, used};
-ghost use Rattle.byte_entries.specs.Placed.{PlacedBytes, WrittenBack};
+ghost use Rattle.local_placing.specs.Placed.{PlacedBytes, WrittenBack};
 
 fn write_back(
     n: usize,
@@ -71,7 +71,7 @@ fn place_over(
 }
 
 // Places in local room.
-pub(crate) fn place_rooms(
+pub fn place_rooms(
     words: &[u32],
     floats: &[f32],
     node_weights: &[f32],

@@ -1,16 +1,17 @@
-// Bytes decoded into local arrays, slice by slice. Of a slice of more than its array holds the start is decoded.
-use crate::rooms::place_rooms;
+// The placing on a scene that is lent in bytes, decoded into local arrays, slice by slice. Of a slice of more than its array
+// holds the start is decoded.
 use lent_bytes::FLOATS;
 use lent_bytes::MARKS;
 use lent_bytes::SLOTS;
 use lent_bytes::WORDS;
+use local_placing::place_rooms;
 use tables::Header;
 use worlds::Answer;
 ghost use lib.ListN.{take};
 ghost use Rattle.wire.specs.Bytes.{wordsIn, floatsIn};
 ghost use Rattle.checks.specs.Drawn.{lentAs, tablesNumber};
 ghost use Rattle.lent_bytes.specs.Bytes.{wordLimit, floatLimit};
-ghost use Rattle.byte_entries.specs.Placed.{marksIn, slotsIn, PlacedBytes};
+ghost use Rattle.local_placing.specs.Placed.{marksIn, slotsIn, PlacedBytes};
 
 fn place_pose(
     words: &[u32],
@@ -77,7 +78,7 @@ fn place_weights(
 }
 
 // Places in the start of each slice.
-pub(crate) fn place_decoded(
+pub fn place_decoded(
     words: &[u8],
     floats: &[u8],
     node_weights: &[u8],

@@ -1,9 +1,9 @@
--- `byte_entries::rooms::place_rooms` meets its contract. Assumes nothing.
+-- `local_placing::place_rooms` meets its contract. Assumes nothing.
 use mathlib.Core.Path.{sym, _∙_}
 use borrow.Author.Needs.{needs}
 use lib.Seq.{length-take-le}
-use Rattle.byte_entries.proofs.rooms.place_rooms.Statement.{statement}
-use Rattle.byte_entries.proofs.rooms.place_rooms.Tie as tie
+use Rattle.local_placing.proofs.place_rooms.Statement.{statement}
+use Rattle.local_placing.proofs.place_rooms.Tie as tie
 
 slice-aggregate-place-over : tie.Need-slice-aggregate-place-over
 slice-aggregate-place-over c = sym (length-take-le _ _ (search needs))

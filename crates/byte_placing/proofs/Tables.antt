@@ -7,7 +7,7 @@ use Rattle.model.specs.Refusals.{placeNumber}
 use Rattle.tables.specs.Decoded.{Lent, sceneOf}
 use Rattle.checks.specs.Drawn.{tablesNumber}
 use Rattle.worlds.specs.declared.Answer.{Answer}
-use Rattle.byte_entries.specs.Placed.{roomIn, PlacedBytes}
+use Rattle.local_placing.specs.Placed.{roomIn, PlacedBytes}
 
 module _ (lentWalk leftWalk lentCodes leftCodes lentWorlds leftWorlds : List ℕ) (a : Answer) where
   pub same-pose : (l : Lent) {marks four : List ℕ} {slots ten : List Float} → four ≡ marks → ten ≡ slots

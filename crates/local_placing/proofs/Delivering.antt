@@ -26,7 +26,7 @@ use Rattle.worlds.specs.Placed.{scratchOf, posesIn, Placed}
 use Rattle.worlds.proofs.Delivering.{few, world-room}
 use Rattle.lent_bytes.specs.Bytes.{walkLimit, codeLimit, worldLimit, used}
 use Rattle.lent_bytes.proofs.Starts.{front}
-use Rattle.byte_entries.specs.Placed.{roomIn, PlacedBytes, WrittenBack}
+use Rattle.local_placing.specs.Placed.{roomIn, PlacedBytes, WrittenBack}
 
 pub front-written : {A : Type 0} {g : A → ℕ} (xs : List A) (n : ℕ) (lent left : List ℕ) (count : ℕ) → n ≤ length xs → 4 * n ≤ length lent
     → WroteAs g (take n xs) lent left count → left ≡ writtenAs g (take n xs) ++ drop (4 * n) lent

@@ -1,11 +1,11 @@
--- `byte_entries::rooms::write_back` meets its contract. Assumes nothing.
+-- `local_placing::write_back` meets its contract. Assumes nothing.
 use mathlib.Core.Path.{sym}
 use borrow.Author.Needs.{needs}
 use lib.Seq.{length-take-le}
 use Rattle.wire.proofs.Writing.{all-written}
-use Rattle.byte_entries.proofs.Delivering.{front-written}
-use Rattle.byte_entries.proofs.rooms.write_back.Statement.{statement}
-use Rattle.byte_entries.proofs.rooms.write_back.Tie as tie
+use Rattle.local_placing.proofs.Delivering.{front-written}
+use Rattle.local_placing.proofs.write_back.Statement.{statement}
+use Rattle.local_placing.proofs.write_back.Tie as tie
 
 slice-aggregate-write-words : tie.Need-slice-aggregate-write-words
 slice-aggregate-write-words c = sym (length-take-le _ _ (c .before .before .before .before .before .before .before .before .before .before .before .pre .0 .0))

@@ -1,13 +1,13 @@
--- `byte_entries::decoding::place_pose` meets its contract. Assumes nothing.
+-- `byte_placing::place_pose` meets its contract. Assumes nothing.
 use mathlib.Core.Path.{sym}
 use borrow.Author.Needs.{needs}
 use denote.Ref.{now}
 use lib.Ieee.{binary32, ofBits}
 use lib.Seq.{length-take-le}
 use Rattle.lent_bytes.proofs.Decoding.{read-into}
-use Rattle.byte_entries.proofs.Tables.{same-pose}
-use Rattle.byte_entries.proofs.decoding.place_pose.Statement.{statement}
-use Rattle.byte_entries.proofs.decoding.place_pose.Tie as tie
+use Rattle.byte_placing.proofs.Tables.{same-pose}
+use Rattle.byte_placing.proofs.place_pose.Statement.{statement}
+use Rattle.byte_placing.proofs.place_pose.Tie as tie
 
 slice-aggregate-place-rooms : tie.Need-slice-aggregate-place-rooms
 slice-aggregate-place-rooms c = sym (length-take-le _ _ (search needs))

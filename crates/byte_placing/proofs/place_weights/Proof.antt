@@ -1,4 +1,4 @@
--- `byte_entries::decoding::place_weights` meets its contract. Assumes nothing.
+-- `byte_placing::place_weights` meets its contract. Assumes nothing.
 use mathlib.Core.Path.{sym}
 use borrow.Author.Needs.{needs}
 use denote.Ref.{now}
@@ -6,9 +6,9 @@ use lib.Ieee.{binary32, ofBits}
 use lib.Seq.{length-take-le}
 use Rattle.checks.specs.Drawn.{lentAs}
 use Rattle.lent_bytes.proofs.Decoding.{read-into}
-use Rattle.byte_entries.proofs.Tables.{same-scene}
-use Rattle.byte_entries.proofs.decoding.place_weights.Statement.{statement}
-use Rattle.byte_entries.proofs.decoding.place_weights.Tie as tie
+use Rattle.byte_placing.proofs.Tables.{same-scene}
+use Rattle.byte_placing.proofs.place_weights.Statement.{statement}
+use Rattle.byte_placing.proofs.place_weights.Tie as tie
 
 slice-aggregate-place-pose : tie.Need-slice-aggregate-place-pose
 slice-aggregate-place-pose c = sym (length-take-le _ _ (search needs))
