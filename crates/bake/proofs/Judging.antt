@@ -17,9 +17,10 @@ use Rattle.model.specs.Refusals.{lowest, earlyNumber}
 use Rattle.model.specs.Bake as model
 use Rattle.tables.specs.Decoded.{Lent, sceneOf}
 use Rattle.checks.specs.Drawn.{tablesNumber}
+use Rattle.bake_stages.specs.Late.{lateNumber}
+use Rattle.bake_stages.specs.Scratch.{Slices, roomOf, scratchLeft}
 use Rattle.bake.specs.declared.Answer.{Answer}
-use Rattle.bake.specs.Scratch.{Slices, roomOf, scratchLeft}
-use Rattle.bake.specs.Baked.{Room, requestOf, outcome, answerOf, roomAfter, Baked, lateNumber}
+use Rattle.bake.specs.Baked.{Room, requestOf, outcome, answerOf, roomAfter, Baked}
 
 -- ---- a node with a mesh, judged
 module _ (r : model.Request) (t : ℕ) (posed own : Option (List Float)) (x : Mesh) where

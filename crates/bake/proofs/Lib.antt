@@ -1,11 +1,5 @@
-pub mod Posed
-pub mod Drawing
 pub mod Meshed
-pub mod Skinning
 pub mod Judging
-pub mod Placed
 pub mod TablesRange
 pub mod TwoMakers
-pub mod PosedWeights
-pub mod Finishing
 pub mod Whole

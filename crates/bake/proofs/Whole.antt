@@ -26,15 +26,16 @@ use Rattle.checks.specs.Checked.{Checked}
 use Rattle.checks.proofs.Clearing.{checked}
 use Rattle.shapes.specs.declared.Lengths.{Lengths}
 use Rattle.shapes.specs.Rest.{lengthsBelow, AtMost, Drawable, PutOut}
+use Rattle.bake_stages.specs.Scratch.{Slices, roomOf, scratchLeft}
+use Rattle.bake_stages.specs.Skinned.{worldFrom, paletteFrom}
+use Rattle.bake_stages.specs.Late.{lateNumber}
+use Rattle.bake_stages.proofs.Drawing.{early-accepted}
+use Rattle.bake_writing.specs.Delivered.{meshRecord, partOf, SkeletonsWithin, Delivered}
+use Rattle.bake_writing.proofs.Finishing.{worlds-are, palette-is}
 use Rattle.bake.specs.declared.Answer.{Answer}
-use Rattle.bake.specs.Scratch.{Slices, roomOf, scratchLeft}
-use Rattle.bake.specs.Baked.{Room, requestOf, outcome, answerOf, roomAfter, Baked, lateNumber}
-use Rattle.bake.specs.Skinned.{worldFrom, paletteFrom, SkeletonsWithin}
-use Rattle.bake.specs.Delivered.{meshRecord, partOf, Delivered}
-use Rattle.bake.proofs.Drawing.{early-accepted}
+use Rattle.bake.specs.Baked.{Room, requestOf, outcome, answerOf, roomAfter, Baked}
 use Rattle.bake.proofs.Meshed.{MeshIs, mesh-is, drawable, Measured, measured}
 use Rattle.bake.proofs.Judging.{worldNow, paletteNow, posedNow, ownNow, resultNow, refusal, refused-late, accepted}
-use Rattle.bake.proofs.Finishing.{worlds-are, palette-is}
 
 -- said of an equal answer, and of an equal room
 pub said : (l : Lent) (i : ℕ) (time : Float) (lent left left′ : Room) (a b : Answer) → left′ ≡ left → a ≡ b → Baked l i time lent left b → Baked l i time lent left′ a

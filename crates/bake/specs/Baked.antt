@@ -1,6 +1,5 @@
 -- What `world_mesh_at` answers and leaves: the bake of the model, in lent room. Definitions only.
 use mathlib.Core.Path.{_≡_}
-use mathlib.Core.Bool.{Bool}
 use Prim.Native.Nat.{ℕ}
 use lib.Ieee.{Float}
 use lib.ListN.{length}
@@ -8,8 +7,8 @@ use Rattle.model.specs.Lists.{pick, isSome}
 use Rattle.model.specs.Bake as model
 use Rattle.tables.specs.Decoded.{Lent, sceneOf}
 use Rattle.checks.specs.Drawn.{tablesNumber}
+use Rattle.bake_stages.specs.Scratch.{Slices, roomOf, scratchLeft}
 use Rattle.bake.specs.declared.Answer.{Answer}
-use Rattle.bake.specs.Scratch.{Slices, roomOf, scratchLeft}
 
 -- the scratch room and the three outputs (the scope's bench and sheets)
 pub record Room : Type 0 where
@@ -50,9 +49,3 @@ roomAfter l i time lent =
 pub record Baked (l : Lent) (i : ℕ) (time : Float) (lent left : Room) (a : Answer) : Type 0 where
   pub answer : answerOf a ≡ outcome l i time lent .answer
   pub room : left ≡ roomAfter l i time lent
-
--- ---- the numbers past 6
-
--- 8, 9, 10 or none: whether the node has a world, its palette can be made, and the outputs are long enough
-abbrev pub lateNumber : Bool → Bool → Bool → ℕ
-lateNumber placed palette fits = pick placed (pick palette (pick fits 0 10) 9) 8

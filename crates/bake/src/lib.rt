@@ -1,14 +1,11 @@
 // The bake of one node: `world_mesh_at` of pose.rs.
+use shapes::Lengths;
 use tables::Header;
 ghost use mathlib.Core.Path.{_≡_};
+ghost use mathlib.Core.Bool.{_&&_};
+ghost use lib.Dec.{leb};
 ghost use Rattle.checks.specs.Drawn.{lentAs};
 ghost use Rattle.bake.specs.Baked.{Baked};
-
-mod delivery;
-mod numbers;
-mod palettes;
-mod posing;
-mod weighing;
 
 // A refusal number, or 0; how many floats were put out, and how many entries the placing took.
 #[repr(C)]
@@ -32,6 +29,13 @@ fn refused(number: u32) -> Answer
     }
 }
 
+// Whether so many floats have room.
+fn fits(n: Lengths, positions: usize, normals: usize, tangents: usize) -> bool
+    ensures { λ r. ⌜ r ≡ (leb (n .positions) positions && leb (n .normals) normals && leb (n .tangents) tangents) ⌝ }
+{
+    (n.positions <= positions) & (n.normals <= normals) & (n.tangents <= tangents)
+}
+
 // The mesh of a node in the world at a time: blended, skinned or transformed, its primitives one after the other in the
 // three outputs. The scratch room (pose slots, walk room, world slots) is lent, and holds the pose and the placing after.
 pub fn world_mesh_at<'a>(
@@ -53,7 +57,7 @@ pub fn world_mesh_at<'a>(
 ) -> Answer
     ensures { λ r. ⌜ Baked (lentAs (now (words .entry)) (now (floats .entry)) (now («node_weights» .entry)) (now («mesh_weights» .entry)) h) node time (record { scratch = record { marks = now (marks .entry); slots = now (slots .entry); walk = now (walk .entry); places = now (places .entry); worlds = now (worlds .entry) }; output = record { positions = now (positions .entry); normals = now (normals .entry); tangents = now (tangents .entry) } }) (record { scratch = record { marks = now (marks .exit); slots = now (slots .exit); walk = now (walk .exit); places = now (places .exit); worlds = now (worlds .exit) }; output = record { positions = now (positions .exit); normals = now (normals .exit); tangents = now (tangents .exit) } }) r ⌝ }
 {
-    let number = numbers::first_number(
+    let number = bake_stages::first_number(
         words,
         floats,
         node_weights,
@@ -68,15 +72,25 @@ pub fn world_mesh_at<'a>(
     if number != 0 {
         return refused(number);
     }
-    let taken = posing::pose_and_place(words, floats, h, time, marks, slots, walk, places, worlds);
-    let mesh = numbers::mesh_of(words, h, node);
+    let taken = bake_stages::pose_and_place(
+        words,
+        floats,
+        h,
+        time,
+        marks,
+        slots,
+        walk,
+        places,
+        worlds,
+    );
+    let mesh = bake_writing::mesh_of(words, h, node);
     let n = shapes::mesh_lengths(words, h.meshes.primitives, mesh.primitives);
-    let fit = numbers::fits(n, positions.len(), normals.len(), tangents.len());
-    let late = numbers::late_number(words, floats, h, node, places, fit);
+    let fit = fits(n, positions.len(), normals.len(), tangents.len());
+    let late = bake_stages::late_number(words, floats, h, node, places, fit);
     if late != 0 {
         return refused(late);
     }
-    delivery::deliver(
+    bake_writing::deliver(
         words,
         floats,
         node_weights,

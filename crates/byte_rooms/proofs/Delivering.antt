@@ -20,11 +20,11 @@ use Rattle.checks.specs.Drawn.{tablesNumber}
 use Rattle.pose.specs.Encoded.{rowsOf, encodedWords, encodedFloats}
 use Rattle.pose.proofs.EncodeLaws.{wordRow, floatRow}
 use Rattle.worlds.specs.Slots.{slotsOf}
+use Rattle.bake_stages.specs.Scratch.{Slices, scratchLeft}
+use Rattle.bake_stages.proofs.Drawing.{ready}
 use Rattle.bake.specs.declared.Answer.{Answer}
-use Rattle.bake.specs.Scratch.{Slices, scratchLeft}
 use Rattle.bake.specs.Baked.{Room, requestOf, outcome, roomAfter, Baked}
 use Rattle.bake.specs.Makers.{SameLengths}
-use Rattle.bake.proofs.Drawing.{ready}
 use Rattle.bake.proofs.TablesRange.{tables-at-most-2}
 use Rattle.lent_bytes.specs.Bytes.{walkLimit, used}
 use Rattle.lent_bytes.proofs.Starts.{front}

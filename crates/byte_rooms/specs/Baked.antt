@@ -14,8 +14,8 @@ use Rattle.tables.specs.Codes.{codesOf}
 use Rattle.checks.specs.Drawn.{tablesNumber}
 use Rattle.pose.specs.Encoded.{encodedWords, encodedFloats}
 use Rattle.worlds.specs.Slots.{slotsOf}
+use Rattle.bake_stages.specs.Scratch.{Slices}
 use Rattle.bake.specs.declared.Answer.{Answer}
-use Rattle.bake.specs.Scratch.{Slices}
 use Rattle.bake.specs.Baked.{Room, answerOf}
 use Rattle.lent_bytes.specs.Bytes.{floatLimit, markLimit, slotLimit, walkLimit, codeLimit, worldLimit, used}
 use Rattle.byte_writing.specs.Bytes.{ByteRoom, withRoom}

@@ -6,8 +6,8 @@ use lib.Dec.{eqb, ltb}
 use lib.ListN.{length, take}
 use Rattle.model.specs.Lists.{pick}
 use Rattle.model.specs.Bake.{Output}
+use Rattle.bake_stages.specs.Scratch.{Slices}
 use Rattle.bake.specs.declared.Answer.{Answer}
-use Rattle.bake.specs.Scratch.{Slices}
 use Rattle.bake.specs.Baked.{Room}
 use Rattle.byte_writing.specs.declared.Amounts.{Amounts}
 use Rattle.byte_writing.specs.Bytes.{ByteSlices, ByteOutput}

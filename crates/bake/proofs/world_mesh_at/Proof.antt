@@ -12,10 +12,10 @@ use Rattle.tables.specs.declared.MeshRow.{MeshRow}
 use Rattle.tables.specs.Decoded.{Lent, sceneOf}
 use Rattle.checks.specs.Drawn.{lentAs, tablesNumber}
 use Rattle.shapes.specs.Rest.{lengthsBelow, Counted}
-use Rattle.bake.specs.Scratch.{Slices}
+use Rattle.bake_stages.specs.Scratch.{Slices}
+use Rattle.bake_stages.proofs.Drawing.{ready}
+use Rattle.bake_writing.specs.Delivered.{partOf}
 use Rattle.bake.specs.Baked.{Room}
-use Rattle.bake.specs.Delivered.{partOf}
-use Rattle.bake.proofs.Drawing.{ready}
 use Rattle.bake.proofs.Judging.{refused-first}
 use Rattle.bake.proofs.Whole.{said, none-early, draw, skeletons, long-enough, turned-down, fit-true, done}
 use Rattle.bake.proofs.world_mesh_at.Statement.{statement}

@@ -1,0 +1,4 @@
+pub mod Posed
+pub mod Drawing
+pub mod Placed
+pub mod NamedPalette

@@ -1,0 +1,128 @@
+use crate::palettes::can_have_palette;
+use tables::Header;
+ghost use mathlib.Core.Path.{_≡_};
+ghost use mathlib.Core.Bool.{_&&_};
+ghost use mathlib.Core.List.{List};
+ghost use lib.Ieee.{Float};
+ghost use Prim.Native.Nat.{_<_};
+ghost use lib.Dec.{ltb};
+ghost use lib.ListN.{getD};
+ghost use Rattle.model.specs.Lists.{pick, isSome};
+ghost use Rattle.model.specs.Scene.{meshAt};
+ghost use Rattle.model.specs.Refusals.{lowest, earlyNumber};
+ghost use Rattle.tables.specs.Records.{nodeRow};
+ghost use Rattle.tables.specs.Tags.{isMarked};
+ghost use Rattle.tables.specs.Decoded.{sceneOf};
+ghost use Rattle.checks.specs.Drawn.{lentAs, tablesNumber};
+ghost use Rattle.bake_stages.specs.Skinned.{worldFrom, paletteFrom};
+ghost use Rattle.bake_stages.specs.Late.{lateNumber};
+
+// The number of a bake as far as 6, with room for so many entries, poses and worlds.
+fn early_number(
+    words: &[u32],
+    floats: &[f32],
+    node_weights: &[f32],
+    mesh_weights: &[f32],
+    h: Header,
+    time: f32,
+    walk: usize,
+    poses: usize,
+    worlds: usize,
+) -> u32
+    ensures { λ r. ⌜ r ≡ earlyNumber (tablesNumber (lentAs (now (words .entry)) (now (floats .entry)) (now («node_weights» .entry)) (now («mesh_weights» .entry)) h)) (sceneOf (lentAs (now (words .entry)) (now (floats .entry)) (now («node_weights» .entry)) (now («mesh_weights» .entry)) h)) time (record { walkRoom = walk; poseSlots = poses; worldSlots = worlds }) ⌝ }
+{
+    let drawn = checks::tables_number(words, floats, node_weights, mesh_weights, h);
+    if drawn != 0 {
+        return drawn;
+    }
+    if float::is_nan(time) {
+        return 3;
+    }
+    if pose::keys_out_of_line(words, floats, h) {
+        return 5;
+    }
+    if worlds::is_short(words, h.graph, walk, poses, worlds) {
+        return 6;
+    }
+    0
+}
+
+// A word as an index.
+pub fn wide(x: u32) -> usize
+    ensures { λ r. ⌜ (r ≡ x) × (r < 4294967296) ⌝ }
+{
+    x as usize
+}
+
+// The number of a bake as far as 7.
+pub fn first_number(
+    words: &[u32],
+    floats: &[f32],
+    node_weights: &[f32],
+    mesh_weights: &[f32],
+    h: Header,
+    node: u32,
+    time: f32,
+    walk: usize,
+    poses: usize,
+    worlds: usize,
+) -> u32
+    ensures { λ r. ⌜ r ≡ lowest (earlyNumber (tablesNumber (lentAs (now (words .entry)) (now (floats .entry)) (now («node_weights» .entry)) (now («mesh_weights» .entry)) h)) (sceneOf (lentAs (now (words .entry)) (now (floats .entry)) (now («node_weights» .entry)) (now («mesh_weights» .entry)) h)) time (record { walkRoom = walk; poseSlots = poses; worldSlots = worlds })) (pick (isSome (meshAt (sceneOf (lentAs (now (words .entry)) (now (floats .entry)) (now («node_weights» .entry)) (now («mesh_weights» .entry)) h)) node)) 0 7) ⌝ }
+{
+    let number = early_number(
+        words,
+        floats,
+        node_weights,
+        mesh_weights,
+        h,
+        time,
+        walk,
+        poses,
+        worlds,
+    );
+    if number != 0 {
+        return number;
+    }
+    if skin::has_mesh(words, h, node) {
+        return 0;
+    }
+    7
+}
+
+// Whether a node of n has a world.
+fn is_placed(places: &[u32], n: usize, node: u32) -> bool
+    ensures { λ r. ⌜ r ≡ (ltb node n && isMarked (getD (now (places .entry)) node 0)) ⌝ }
+{
+    let i = wide(node);
+    if i < n {
+        if i < places.len() {
+            return tables::is_marked(places[i]);
+        }
+    }
+    false
+}
+
+// The number of a bake past 7: 8, 9, 10, or 0.
+pub fn late_number(
+    words: &[u32],
+    floats: &[f32],
+    h: Header,
+    node: u32,
+    places: &[u32],
+    fit: bool,
+) -> u32
+    ensures { λ r. ⌜ ((own mesh slots : List Float) → r ≡ lateNumber (isSome (worldFrom (lentAs (now (words .entry)) (now (floats .entry)) own mesh h) (now (places .entry)) slots node)) (isSome (paletteFrom (lentAs (now (words .entry)) (now (floats .entry)) own mesh h) (nodeRow (now (words .entry)) (h .graph .nodes) node .skin) (now (places .entry)) slots)) fit) ⌝ }
+{
+    let nodes = h.graph.nodes;
+    if is_placed(places, nodes.count, node) {
+        let row = tables::node_row(words, nodes, wide(node));
+        if can_have_palette(words, floats, h, row.skin, places) {
+            if fit {
+                return 0;
+            }
+            return 10;
+        }
+        return 9;
+    }
+    8
+}

@@ -1,0 +1,3 @@
+pub mod Skinning
+pub mod PosedWeights
+pub mod Finishing

@@ -1,0 +1,45 @@
+-- The result of a bake from a scratch room that holds the pose and the placing, for tables whose skeletons are within their limit.
+-- Definitions only.
+use mathlib.Core.Path.{_≡_}
+use mathlib.Core.Bool.{true}
+use mathlib.Core.List.{List, map}
+use mathlib.Core.Option.{Option, some}
+use Prim.Native.Nat.{ℕ, _<_}
+use lib.Ieee.{Float}
+use Rattle.model.specs.Lists.{isSome}
+use Rattle.model.specs.Matrix.{Matrix}
+use Rattle.model.specs.Scene.{nodeAt, skeletonAt}
+use Rattle.model.specs.World.{posesOf, poseAt, worlds, worldAt}
+use Rattle.model.specs.Skin.{blendWeights}
+use Rattle.model.specs.Refusals.{earlyNumber}
+use Rattle.model.specs.Bake.{bakedPrimitive, outputOf, paletteWith}
+use Rattle.animation.specs.declared.Part.{Part}
+use Rattle.tables.specs.declared.Header.{Header}
+use Rattle.tables.specs.declared.MeshRow.{MeshRow}
+use Rattle.tables.specs.Records.{nodeRow, meshRow, skeletonRow}
+use Rattle.tables.specs.Decoded.{Lent, meshOf, sceneOf}
+use Rattle.checks.specs.Bounds.{skeletonWithin}
+use Rattle.checks.specs.Drawn.{tablesNumber}
+use Rattle.shapes.specs.Rest.{PutOut}
+use Rattle.bake_stages.specs.Scratch.{Slices, roomOf, scratchLeft}
+
+-- the record of node i's mesh, and its primitives
+abbrev pub meshRecord : List ℕ → Header → ℕ → MeshRow
+meshRecord words h i = meshRow words (h .meshes .meshes) (nodeRow words (h .graph .nodes) i .mesh .id)
+
+abbrev pub partOf : List ℕ → Header → ℕ → Part
+partOf words h i = meshRecord words h i .primitives
+
+abbrev pub SkeletonsWithin : List ℕ → Part → Type 0
+SkeletonsWithin words t = (k : ℕ) → k < t .count → skeletonWithin (skeletonRow words t k) ≡ true
+
+pub record Delivered (l : Lent) (i : ℕ) (time : Float) (marks places : List ℕ) (worlds′ lp p ln n lt t : List Float) : Type 0 where
+  pub result : (lent : Slices) → earlyNumber (tablesNumber l) (sceneOf l) time (roomOf lent) ≡ 0
+      → i < l .header .graph .nodes .count → nodeRow (l .words) (l .header .graph .nodes) i .mesh .id < l .header .meshes .meshes .count
+      → marks ≡ scratchLeft l time lent .marks → places ≡ scratchLeft l time lent .places → worlds′ ≡ scratchLeft l time lent .worlds
+      → (w : Matrix) (o : Option (List Matrix))
+      → worldAt (worlds (posesOf time (sceneOf l)) (sceneOf l)) i ≡ some w
+      → paletteWith (worldAt (worlds (posesOf time (sceneOf l)) (sceneOf l))) (isSome (nodeAt (sceneOf l) i .skin)) (skeletonAt (sceneOf l) i) ≡ some o
+      → PutOut
+      (outputOf (map (bakedPrimitive w o (blendWeights (poseAt (posesOf time (sceneOf l)) i .weights) (nodeAt (sceneOf l) i .weights) (meshOf l (meshRecord (l .words) (l .header) i)))) (meshOf l (meshRecord (l .words) (l .header) i) .primitives)))
+      lp p ln n lt t

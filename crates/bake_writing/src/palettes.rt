@@ -1,0 +1,113 @@
+use animation::Part;
+use scene::Mat4;
+use skin::Joints;
+use tables::Header;
+use tables::Reference;
+ghost use mathlib.Core.Path.{_≡_};
+ghost use mathlib.Core.List.{List, [], map};
+ghost use mathlib.Core.Option.{Option, some};
+ghost use lib.Ieee.{Float};
+ghost use lib.ListN.{length};
+ghost use Rattle.model.specs.Lists.{orElse};
+ghost use Rattle.model.specs.Matrix.{Matrix};
+ghost use Rattle.model.specs.Bake.{bakedPrimitive, outputOf};
+ghost use Rattle.checks.specs.Drawn.{lentAs};
+ghost use Rattle.shapes.specs.Rest.{primitivesIn, lengthsBelow, AtMost, Drawable, PutOut};
+ghost use Rattle.bake_stages.specs.Skinned.{skinPaletteFrom, paletteFrom};
+ghost use Rattle.bake_writing.specs.Delivered.{SkeletonsWithin};
+
+// How many joint matrices the palette of a skin has; 0 where there is none.
+fn joints_of(words: &[u32], floats: &[f32], h: Header, skin: u32, places: &[u32]) -> usize
+    ensures { λ r. ⌜ ((own mesh slots : List Float) → r ≡ length (orElse (skinPaletteFrom (lentAs (now (words .entry)) (now (floats .entry)) own mesh h) skin (now (places .entry)) slots) [])) ⌝ }
+{
+    let Joints::Count(n) = skin::palette_count(words, floats, h, skin, places) else {
+        return 0;
+    };
+    n
+}
+
+// Puts out a mesh with the palette of a skin: room for as many joints as a skeleton may have.
+fn put_skinned(
+    words: &[u32],
+    floats: &[f32],
+    h: Header,
+    part: Part,
+    weights: &[f32],
+    world: Mat4,
+    skin: u32,
+    places: &[u32],
+    worlds: &[f32],
+    positions: &mut [f32],
+    normals: &mut [f32],
+    tangents: &mut [f32],
+)
+    requires { ⌜ Drawable (now words) (now floats) (h .meshes .primitives) part × AtMost (lengthsBelow (now words) (h .meshes .primitives) part (part .count)) (length (now positions)) (length (now normals)) (length (now tangents)) × SkeletonsWithin (now words) (h .skins .skeletons) ⌝ }
+    ensures { λ _. ⌜ ((own mesh : List Float) (p : List Matrix) → skinPaletteFrom (lentAs (now (words .entry)) (now (floats .entry)) own mesh h) skin (now (places .entry)) (now (worlds .entry)) ≡ some p → PutOut (outputOf (map (bakedPrimitive (world .m) (some p) (now (weights .entry))) (primitivesIn (lentAs (now (words .entry)) (now (floats .entry)) [] [] h) part))) (now (positions .entry)) (now (positions .exit)) (now (normals .entry)) (now (normals .exit)) (now (tangents .entry)) (now (tangents .exit))) ⌝ }
+{
+    let mut palette = [0.0f32; 4096];
+    skin::write_palette(words, floats, h, skin, places, worlds, &mut palette);
+    let n = joints_of(words, floats, h, skin, places) * 16;
+    shapes::write_mesh(
+        words,
+        floats,
+        h,
+        part,
+        weights,
+        world,
+        true,
+        &palette[..n],
+        positions,
+        normals,
+        tangents,
+    );
+}
+
+// Puts out a mesh with the palette of what its node names, if that is a skin.
+pub(crate) fn put_out(
+    words: &[u32],
+    floats: &[f32],
+    h: Header,
+    part: Part,
+    weights: &[f32],
+    world: Mat4,
+    skin: Reference,
+    places: &[u32],
+    worlds: &[f32],
+    positions: &mut [f32],
+    normals: &mut [f32],
+    tangents: &mut [f32],
+)
+    requires { ⌜ Drawable (now words) (now floats) (h .meshes .primitives) part × AtMost (lengthsBelow (now words) (h .meshes .primitives) part (part .count)) (length (now positions)) (length (now normals)) (length (now tangents)) × SkeletonsWithin (now words) (h .skins .skeletons) ⌝ }
+    ensures { λ _. ⌜ ((own mesh : List Float) (p : Option (List Matrix)) → paletteFrom (lentAs (now (words .entry)) (now (floats .entry)) own mesh h) skin (now (places .entry)) (now (worlds .entry)) ≡ some p → PutOut (outputOf (map (bakedPrimitive (world .m) p (now (weights .entry))) (primitivesIn (lentAs (now (words .entry)) (now (floats .entry)) [] [] h) part))) (now (positions .entry)) (now (positions .exit)) (now (normals .entry)) (now (normals .exit)) (now (tangents .entry)) (now (tangents .exit))) ⌝ }
+{
+    if tables::is_marked(skin.mark) {
+        put_skinned(
+            words,
+            floats,
+            h,
+            part,
+            weights,
+            world,
+            skin.id,
+            places,
+            worlds,
+            positions,
+            normals,
+            tangents,
+        );
+    } else {
+        shapes::write_mesh(
+            words,
+            floats,
+            h,
+            part,
+            weights,
+            world,
+            false,
+            &floats[0..0],
+            positions,
+            normals,
+            tangents,
+        );
+    }
+}
