@@ -21,9 +21,9 @@ use Rattle.tables.specs.Codes.{codesOf}
 use Rattle.tables.proofs.Decoding.{node-count, node-at}
 use Rattle.placing.specs.Walk.{listingIn}
 use Rattle.placing.proofs.Linked.{same-listing, order-linked, places-linked, taken-linked}
-use Rattle.pose.specs.Slots.{room, poseIn}
-use Rattle.pose.specs.Gifts.{bare}
-use Rattle.pose.specs.Lines.{channelIn}
+use Rattle.pose_slots.specs.Slots.{room, poseIn}
+use Rattle.pose_slots.specs.Gifts.{bare}
+use Rattle.pose_slots.specs.Channels.{channelIn}
 use Rattle.pose.specs.Encoded.{encodedWords, encodedFloats}
 use Rattle.pose.proofs.EncodeLaws.{read-pose}
 use Rattle.worlds.specs.Slots.{slotsOf}

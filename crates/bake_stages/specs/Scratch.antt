@@ -13,7 +13,7 @@ use Rattle.tables.specs.declared.Header.{Header}
 use Rattle.tables.specs.Decoded.{Lent, sceneOf}
 use Rattle.tables.specs.Codes.{codesOf}
 use Rattle.placing.specs.Walk.{listingIn, entriesOf}
-use Rattle.pose.specs.Slots.{room}
+use Rattle.pose_slots.specs.Slots.{room}
 use Rattle.pose.specs.Lines.{NoneDrawn, AllInLine}
 use Rattle.pose.specs.Encoded.{encodedWords, encodedFloats}
 use Rattle.worlds.specs.Slots.{slotsOf}

@@ -48,13 +48,13 @@ use Rattle.checks.specs.Places.{fitsIn}
 use Rattle.checks.specs.Bounds.{slotWithin, primitiveWithin}
 use Rattle.checks.specs.Drawn.{tablesNumber}
 use Rattle.checks.proofs.Clearing.{checked}
-use Rattle.pose.specs.Slots.{room}
-use Rattle.pose.specs.Lines.{channelIn}
+use Rattle.pose_slots.specs.Slots.{room}
+use Rattle.pose_slots.specs.Channels.{channelIn}
+use Rattle.pose_slots.proofs.SampledGifts.{sample-driving, answered}
 use Rattle.pose.specs.Encoded.{givesWeights, standingFrom, standing, weightsBy, encodedWords}
 use Rattle.pose.proofs.EncodeLaws.{stands, stand-more, read-word}
 use Rattle.pose.proofs.WeightLaws.{standing-weights}
 use Rattle.pose.proofs.CallLaws.{none-drawn, all-in-line}
-use Rattle.pose.proofs.SampledGifts.{sample-driving, answered}
 use Rattle.skin.specs.Weights.{Effective}
 use Rattle.bake_writing.specs.Weights.{Weighed, Unposed, Blending}
 

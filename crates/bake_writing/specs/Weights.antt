@@ -20,8 +20,8 @@ use Rattle.tables.specs.declared.MeshRow.{MeshRow}
 use Rattle.tables.specs.Tags.{trackFor}
 use Rattle.tables.specs.Decoded.{Lent, nodeOf, meshOf, sceneOf}
 use Rattle.checks.specs.Drawn.{lentAs, tablesNumber}
-use Rattle.pose.specs.Slots.{room}
-use Rattle.pose.specs.Lines.{channelIn}
+use Rattle.pose_slots.specs.Slots.{room}
+use Rattle.pose_slots.specs.Channels.{channelIn}
 use Rattle.pose.specs.Encoded.{encodedWords}
 
 -- the first r floats are the sampled value of a channel, where it has weights that can be sampled

@@ -2,7 +2,7 @@
 use mathlib.Core.Path.{_≡_}
 use lib.ListN.{length}
 use Rattle.model.specs.Bake.{Output}
-use Rattle.bake.specs.Scratch.{Slices}
+use Rattle.bake_stages.specs.Scratch.{Slices}
 use Rattle.lent_bytes.specs.Bytes.{floatLimit, markLimit, slotLimit, walkLimit, codeLimit, worldLimit, used}
 use Rattle.byte_writing.specs.Bytes.{ByteSlices, ByteOutput}
 

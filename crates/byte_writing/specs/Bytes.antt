@@ -5,7 +5,7 @@ use lib.Ieee.{Float}
 use lib.ListN.{length, drop}
 use Rattle.model.specs.Bake.{Output}
 use Rattle.wire.specs.Bytes.{bytesOfWords, bytesOf}
-use Rattle.bake.specs.Scratch.{Slices}
+use Rattle.bake_stages.specs.Scratch.{Slices}
 use Rattle.bake.specs.Baked.{Room}
 
 -- the scratch room and the three outputs, in bytes

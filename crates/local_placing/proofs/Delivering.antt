@@ -19,7 +19,7 @@ use Rattle.tables.specs.Decoded.{Lent, sceneOf}
 use Rattle.tables.specs.Codes.{codesOf}
 use Rattle.tables.proofs.Decoding.{node-count}
 use Rattle.checks.specs.Drawn.{tablesNumber}
-use Rattle.pose.specs.Slots.{room}
+use Rattle.pose_slots.specs.Slots.{room}
 use Rattle.worlds.specs.declared.Answer.{Answer}
 use Rattle.worlds.specs.Slots.{slotsOf}
 use Rattle.worlds.specs.Placed.{scratchOf, posesIn, Placed}

@@ -13,7 +13,7 @@ use Rattle.model.specs.Refusals.{Scratch, placeNumber}
 use Rattle.wire.specs.Bytes.{wordsIn, floatsIn, bytesOfWords, bytesOf}
 use Rattle.tables.specs.Decoded.{Lent, sceneOf}
 use Rattle.tables.specs.Codes.{codesOf}
-use Rattle.pose.specs.Slots.{room}
+use Rattle.pose_slots.specs.Slots.{room}
 use Rattle.worlds.specs.declared.Answer.{Answer}
 use Rattle.worlds.specs.Slots.{slotsOf}
 use Rattle.worlds.specs.Placed.{posesIn}

@@ -16,8 +16,9 @@ use Rattle.tables.proofs.Decoding.{node-count, channel-count}
 use Rattle.checks.specs.declared.Table.the-variants as table
 use Rattle.checks.specs.Drawn.{tablesNumber}
 use Rattle.checks.proofs.Clearing.{checked}
-use Rattle.pose.specs.Slots.{room}
-use Rattle.pose.specs.Lines.{channelIn, outOfLine, NoneDrawn, AllInLine}
+use Rattle.pose_slots.specs.Slots.{room}
+use Rattle.pose_slots.specs.Channels.{channelIn}
+use Rattle.pose.specs.Lines.{outOfLine, NoneDrawn, AllInLine}
 use Rattle.pose.specs.Encoded.{encodedWords, encodedFloats, whenAccepted, Posed}
 use Rattle.pose.proofs.LineLaws.{in-counts}
 

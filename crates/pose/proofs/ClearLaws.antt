@@ -9,7 +9,7 @@ use lib.Seq.{paste, drop-at}
 use Rattle.model.specs.Lists.{foldl, tabulate}
 use Rattle.model.specs.Scene.{Track}
 use Rattle.model.specs.Pose.{Pose, atRest, poses}
-use Rattle.pose.specs.Slots.{wordsOf, floatsOf}
+use Rattle.pose_slots.specs.Slots.{wordsOf, floatsOf}
 use Rattle.pose.specs.Encoded.{rowsOf, standingFrom, encodedWords, encodedFloats, clearedWords, clearedFloats}
 use Rattle.pose.proofs.RowLaws.{length-rows, rows-alike, add-row}
 use Rattle.pose.proofs.EncodeLaws.{wordRow, floatRow}

@@ -15,10 +15,10 @@ use Rattle.model.specs.Vector.{Vector}
 use Rattle.model.specs.Scene.{Property, translation, rotation, scale, morphWeights, Track}
 use Rattle.model.specs.Pose.{Pose, atRest, replaced, drive, poses}
 use Rattle.tables.specs.Tags.{isMarked}
-use Rattle.pose.specs.Slots.{when, room, poseFrom, poseIn, markOf, wordsOf, floatsOf}
-use Rattle.pose.specs.Gifts.{bare}
+use Rattle.pose_slots.specs.Slots.{when, room, poseFrom, poseIn, markOf, wordsOf, floatsOf}
+use Rattle.pose_slots.specs.Gifts.{bare}
+use Rattle.pose_slots.proofs.SlotLaws.{in-room}
 use Rattle.pose.specs.Encoded.{rowsOf, givesWeights, standingFrom, standing, encodedWords, encodedFloats}
-use Rattle.pose.proofs.SlotLaws.{in-room}
 use Rattle.pose.proofs.SizeLaws.{Sized, poses-sized}
 use Rattle.pose.proofs.RowLaws.{length-rows, get-row}
 

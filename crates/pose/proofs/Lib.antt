@@ -1,8 +1,4 @@
-pub mod Overlaid
-pub mod SlotLaws
 pub mod LineLaws
-pub mod GiftLaws
-pub mod SampledGifts
 pub mod RowLaws
 pub mod SizeLaws
 pub mod EncodeLaws

@@ -20,7 +20,8 @@ use Rattle.tables.specs.Records.{channelRow}
 use Rattle.tables.specs.Tags.{trackFor}
 use Rattle.tables.specs.Decoded.{Lent, sceneOf}
 use Rattle.tables.proofs.Decoding.{node-count}
-use Rattle.pose.specs.Lines.{channelIn, outOfLine}
+use Rattle.pose_slots.specs.Channels.{channelIn}
+use Rattle.pose.specs.Lines.{outOfLine}
 
 -- ---- one channel
 five : (e l s : Bool) → eqb (pick (not e) 4 (pick (not l) 5 (pick s 10 0))) 5 ≡ (e && not l)

@@ -14,8 +14,8 @@ use Rattle.model.specs.Lists.{pick, tabulate}
 use Rattle.model.specs.Scene.{Track}
 use Rattle.model.specs.Pose.{Pose, atRest, drive, driveAt, poses}
 use Rattle.model.proofs.Posing.{length-poses}
-use Rattle.pose.specs.Slots.{room, wordsOf, floatsOf}
-use Rattle.pose.specs.Gifts.{bare}
+use Rattle.pose_slots.specs.Slots.{room, wordsOf, floatsOf}
+use Rattle.pose_slots.specs.Gifts.{bare}
 use Rattle.pose.specs.Encoded.{givesWeights, standing, encodedWords, encodedFloats, driven, drivenWord, Driven}
 use Rattle.pose.proofs.RowLaws.{rows-alike, put-row}
 use Rattle.pose.proofs.EncodeLaws.{bare-drive, fold-more, stands, stand-more, wordRow, floatRow, float-width, read-pose, read-word}

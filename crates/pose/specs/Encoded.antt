@@ -15,7 +15,7 @@ use Rattle.model.specs.Pose.{Pose, atRest, drive, poses}
 use Rattle.model.specs.Refusals.{poseNumber}
 use Rattle.tables.specs.Decoded.{Lent, sceneOf}
 use Rattle.checks.specs.Drawn.{tablesNumber}
-use Rattle.pose.specs.Slots.{room, poseIn, wordsOf, floatsOf}
+use Rattle.pose_slots.specs.Slots.{room, poseIn, wordsOf, floatsOf}
 
 -- the first n rows, one after the other
 unfoldable pub rowsOf : {A : Type 0} → ℕ → (ℕ → List A) → List A

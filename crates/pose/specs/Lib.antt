@@ -1,4 +1,2 @@
-pub mod Slots
 pub mod Lines
-pub mod Gifts
 pub mod Encoded

@@ -1,4 +1,4 @@
--- A channel of the lent tables, and whether its keys are out of line. Definitions only.
+-- Whether the keys of a channel are out of line. Definitions only.
 use mathlib.Core.Path.{_≡_}
 use mathlib.Core.Bool.{Bool, false, not, _&&_}
 use mathlib.Core.List.{List}
@@ -8,15 +8,10 @@ use lib.Ieee.{Float}
 use Rattle.model.specs.Scene.{Track}
 use Rattle.model.specs.Sampling.{even, inLine}
 use Rattle.animation.specs.declared.Part.{Part}
-use Rattle.animation.specs.Tracks.{trackIn, tableNumber}
-use Rattle.tables.specs.declared.ChannelRow.{ChannelRow}
+use Rattle.animation.specs.Tracks.{tableNumber}
 use Rattle.tables.specs.Records.{channelRow}
-use Rattle.tables.specs.Tags.{propertyFor, trackFor}
-use Rattle.tables.specs.Decoded.{driving}
-
--- what a record says: `channelOf` of the tables, which takes in the floats alone
-abbrev pub channelIn : List Float → ChannelRow → Track
-channelIn floats r = driving (r .target) (propertyFor (r .property)) (trackIn floats (trackFor r))
+use Rattle.tables.specs.Tags.{trackFor}
+use Rattle.pose_slots.specs.Channels.{channelIn}
 
 -- an even track that is aimed at one of n nodes, with keys that are not in line
 abbrev pub outOfLine : ℕ → Track → Bool

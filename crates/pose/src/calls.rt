@@ -12,8 +12,9 @@ ghost use Rattle.model.specs.Refusals.{poseNumber};
 ghost use Rattle.tables.specs.Records.{channelRow};
 ghost use Rattle.tables.specs.Decoded.{sceneOf};
 ghost use Rattle.checks.specs.Drawn.{lentAs, tablesNumber};
-ghost use Rattle.pose.specs.Slots.{room};
-ghost use Rattle.pose.specs.Lines.{channelIn, NoneDrawn, AllInLine};
+ghost use Rattle.pose_slots.specs.Slots.{room};
+ghost use Rattle.pose_slots.specs.Channels.{channelIn};
+ghost use Rattle.pose.specs.Lines.{NoneDrawn, AllInLine};
 ghost use Rattle.pose.specs.Encoded.{encodedWords, encodedFloats, Posed};
 
 // How many nodes slices of such lengths have slots for.

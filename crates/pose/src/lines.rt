@@ -11,7 +11,8 @@ ghost use Rattle.tables.specs.Records.{channelRow};
 ghost use Rattle.tables.specs.Tags.{trackFor};
 ghost use Rattle.tables.specs.Decoded.{sceneOf};
 ghost use Rattle.checks.specs.Drawn.{lentAs};
-ghost use Rattle.pose.specs.Lines.{outOfLine, channelIn, NoneDrawn};
+ghost use Rattle.pose_slots.specs.Channels.{channelIn};
+ghost use Rattle.pose.specs.Lines.{outOfLine, NoneDrawn};
 
 // Whether a channel is an even track that is aimed at one of n nodes and has keys that are not in line.
 fn is_out_of_line(floats: &[f32], row: ChannelRow, n: usize) -> bool

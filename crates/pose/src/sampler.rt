@@ -1,11 +1,11 @@
-use crate::NodePose;
-use crate::gifts::Gift;
-use crate::gifts::gift_at;
-use crate::gifts::receive;
-use crate::slots::at_rest;
-use crate::slots::pose_at;
-use crate::slots::store_pose;
 use animation::Part;
+use pose_slots::Gift;
+use pose_slots::NodePose;
+use pose_slots::at_rest;
+use pose_slots::gift_at;
+use pose_slots::pose_at;
+use pose_slots::receive;
+use pose_slots::store_pose;
 use tables::ChannelRow;
 ghost use mathlib.Core.Path.{_≡_};
 ghost use mathlib.Core.Bool.{false, not, _&&_};
@@ -16,9 +16,10 @@ ghost use Rattle.model.specs.Sampling.{even, inLine};
 ghost use Rattle.animation.specs.Tracks.{tableNumber};
 ghost use Rattle.tables.specs.Records.{channelRow};
 ghost use Rattle.tables.specs.Tags.{trackFor};
-ghost use Rattle.pose.specs.Slots.{poseOf, room};
-ghost use Rattle.pose.specs.Lines.{channelIn, outOfLine, NoneDrawn, AllInLine};
-ghost use Rattle.pose.specs.Gifts.{bare, bringsWeights};
+ghost use Rattle.pose_slots.specs.Slots.{poseOf, room};
+ghost use Rattle.pose_slots.specs.Channels.{channelIn};
+ghost use Rattle.pose_slots.specs.Gifts.{bare, bringsWeights};
+ghost use Rattle.pose.specs.Lines.{outOfLine, NoneDrawn, AllInLine};
 ghost use Rattle.pose.specs.Encoded.{clearedWords, clearedFloats, encodedWords, encodedFloats, driven, drivenWord, Driven};
 
 // What a slot holds.

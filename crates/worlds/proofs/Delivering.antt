@@ -27,7 +27,7 @@ use Rattle.checks.specs.Drawn.{tablesNumber}
 use Rattle.checks.proofs.Clearing.{checked}
 use Rattle.placing.specs.Walk.{listingIn, entriesOf}
 use Rattle.placing.proofs.Linked.{same-listing, order-linked, places-linked, taken-linked, room-linked}
-use Rattle.pose.specs.Slots.{room, poseIn}
+use Rattle.pose_slots.specs.Slots.{room, poseIn}
 use Rattle.worlds.specs.Slots.{slotsOf}
 use Rattle.worlds.specs.Posed.{localIn}
 use Rattle.worlds.specs.Placed.{scratchOf, posesIn, Run, Placed}

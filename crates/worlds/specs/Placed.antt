@@ -17,7 +17,7 @@ use Rattle.model.specs.Refusals.{Scratch, placeNumber}
 use Rattle.tables.specs.Decoded.{Lent, sceneOf}
 use Rattle.tables.specs.Codes.{codesOf}
 use Rattle.checks.specs.Drawn.{tablesNumber}
-use Rattle.pose.specs.Slots.{room, poseIn}
+use Rattle.pose_slots.specs.Slots.{room, poseIn}
 use Rattle.worlds.specs.declared.Answer.{Answer}
 use Rattle.worlds.specs.Slots.{slotsOf}
 

@@ -8,7 +8,7 @@ use Rattle.model.specs.Pose.{localTransform}
 use Rattle.animation.specs.declared.Part.{Part}
 use Rattle.tables.specs.Records.{nodeRow}
 use Rattle.tables.specs.Decoded.{baseOf}
-use Rattle.pose.specs.Slots.{poseIn}
+use Rattle.pose_slots.specs.Slots.{poseIn}
 
 unfoldable pub localIn : List ℕ → List Float → Part → List ℕ → List Float → ℕ → Matrix
 localIn words floats nodes marks slots i = toMatrix (localTransform (poseIn marks slots i) (baseOf floats (nodeRow words nodes i)))

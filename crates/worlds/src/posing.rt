@@ -25,7 +25,7 @@ fn local_matrix(
     ensures { λ r. ⌜ r .m ≡ localIn (now (words .entry)) (now (floats .entry)) nodes (now (marks .entry)) (now (slots .entry)) i ⌝ }
 {
     let base = tables::base_of(floats, tables::node_row(words, nodes, i));
-    scene::to_matrix(pose::local_transform(pose::pose_at(marks, slots, i), base))
+    scene::to_matrix(pose_slots::local_transform(pose_slots::pose_at(marks, slots, i), base))
 }
 
 fn word(words: &[u32], i: usize) -> u32

@@ -5,7 +5,7 @@ use borrow.Author.Needs.{needs}
 use denote.Ref.{now}
 use Rattle.model.specs.Lists.{tabulate}
 use Rattle.tables.specs.Records.{channelRow}
-use Rattle.pose.specs.Lines.{channelIn}
+use Rattle.pose_slots.specs.Channels.{channelIn}
 use Rattle.pose.proofs.ClearLaws.{cleared-words, cleared-floats, over-words, over-floats}
 use Rattle.pose.proofs.calls.pose_all.Statement.{statement}
 use Rattle.pose.proofs.calls.pose_all.Tie as tie

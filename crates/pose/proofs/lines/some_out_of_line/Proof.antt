@@ -10,7 +10,8 @@ use Rattle.animation.specs.Tracks.{tableNumber}
 use Rattle.tables.specs.declared.ChannelRow.{ChannelRow}
 use Rattle.tables.specs.Records.{channelRow}
 use Rattle.tables.specs.Tags.{trackFor}
-use Rattle.pose.specs.Lines.{channelIn, outOfLine}
+use Rattle.pose_slots.specs.Channels.{channelIn}
+use Rattle.pose.specs.Lines.{outOfLine}
 use Rattle.pose.proofs.LineLaws.{any-there, none-there}
 use Rattle.pose.proofs.lines.some_out_of_line.Statement.{statement}
 use Rattle.pose.proofs.lines.some_out_of_line.Tie as tie

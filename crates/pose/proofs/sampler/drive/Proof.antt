@@ -6,7 +6,7 @@ use borrow.Author.Needs.{needs}
 use borrow.Author.Tests.{lt-ltb}
 use denote.Ref.{now}
 use Rattle.model.specs.Sampling.{even, inLine}
-use Rattle.pose.specs.Lines.{channelIn}
+use Rattle.pose_slots.specs.Channels.{channelIn}
 use Rattle.pose.proofs.StepLaws.{was-driven, not-driven}
 use Rattle.pose.proofs.sampler.drive.Statement.{statement}
 use Rattle.pose.proofs.sampler.drive.Tie as tie

@@ -12,7 +12,8 @@ use Rattle.animation.specs.Tracks.{tableNumber}
 use Rattle.tables.specs.declared.ChannelRow.{ChannelRow}
 use Rattle.tables.specs.Records.{channelRow}
 use Rattle.tables.specs.Tags.{trackFor}
-use Rattle.pose.specs.Lines.{channelIn, outOfLine}
+use Rattle.pose_slots.specs.Channels.{channelIn}
+use Rattle.pose.specs.Lines.{outOfLine}
 use Rattle.pose.specs.Encoded.{encodedWords, encodedFloats}
 use Rattle.pose.proofs.ClearLaws.{first-words, first-floats}
 use Rattle.pose.proofs.StepLaws.{channel-more}

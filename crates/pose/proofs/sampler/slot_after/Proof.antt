@@ -7,9 +7,9 @@ use denote.Ref.{now}
 use lib.ListN.{getD}
 use Rattle.model.specs.Lists.{pick}
 use Rattle.model.specs.Pose.{Pose, drive}
-use Rattle.pose.specs.Slots.{poseOf}
-use Rattle.pose.specs.Lines.{channelIn}
-use Rattle.pose.specs.Gifts.{bare}
+use Rattle.pose_slots.specs.Slots.{poseOf}
+use Rattle.pose_slots.specs.Channels.{channelIn}
+use Rattle.pose_slots.specs.Gifts.{bare}
 use Rattle.pose.proofs.sampler.slot_after.Statement.{statement}
 use Rattle.pose.proofs.sampler.slot_after.Tie as tie
 

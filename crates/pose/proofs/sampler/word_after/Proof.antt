@@ -3,8 +3,8 @@ use mathlib.Core.Path.{sym, ap}
 use Prim.Native.Nat.{_+_}
 use borrow.Author.Needs.{needs}
 use Rattle.model.specs.Lists.{pick}
-use Rattle.pose.specs.declared.gifts.Gift.{Gift}
-use Rattle.pose.specs.Gifts.{bringsWeights}
+use Rattle.pose_slots.specs.declared.Gift.{Gift}
+use Rattle.pose_slots.specs.Gifts.{bringsWeights}
 use Rattle.pose.proofs.sampler.word_after.Statement.{statement}
 use Rattle.pose.proofs.sampler.word_after.Tie as tie
 

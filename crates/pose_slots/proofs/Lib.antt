@@ -1,0 +1,4 @@
+pub mod Overlaid
+pub mod SlotLaws
+pub mod GiftLaws
+pub mod SampledGifts
