@@ -1,9 +1,5 @@
-pub mod Floatwise
-pub mod DeltaLaws
-pub mod AddLaws
 pub mod Rising
 pub mod Segments
-pub mod BetweenLaws
 pub mod SlotLaws
 pub mod StationLaws
 pub mod TargetLaws

@@ -14,7 +14,7 @@ use Rattle.model.specs.Scene.{InBetween, Target, Primitive}
 use Rattle.model.specs.Morph.{valid, plainTarget, stationTarget, withTarget, withTargets}
 use Rattle.model.specs.Attributes.{attributesIn, shapeOf, overRows, Reshaped}
 use Rattle.model.proofs.Rowwise.{rows-in, row-count, over-length, rows-over, over-again}
-use Rattle.mesh.proofs.DeltaLaws.{over-own}
+use Rattle.deltas.proofs.DeltaLaws.{over-own}
 use Rattle.mesh.proofs.TargetLaws.{vertices, plain-is, station-is}
 use Rattle.mesh.proofs.Sizes.{Size, Sized, TargetRows, target-sized}
 

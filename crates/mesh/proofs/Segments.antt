@@ -1,17 +1,20 @@
 -- The segment of a weight among stations, found without sorting: a station that is inserted moves at most one end. Assumes nothing.
 use mathlib.Core.Path.{_≡_, refl, sym, _∙_}
-use mathlib.Core.Bool.{Bool, true, false, true≢false}
+use mathlib.Core.Bool.{Bool, true, false, not, _&&_, true≢false}
 use mathlib.Core.List.{List, [], _∷_}
 use mathlib.Core.Option.{Option, none}
-use lib.Ieee.{Float, lt, le, isNan, ofBits, ofFields}
+use lib.Ieee.{Float, lt, le, eq, isNan, ofBits, ofFields}
+use lib.Ieee.Scale.{finite}
 use Rattle.float.specs.F32.{zero32, one32}
 use Rattle.model.specs.Lists.{pick, foldl}
 use Rattle.model.specs.Vector.{Vector}
 use Rattle.model.specs.Scene.{InBetween}
 use Rattle.model.specs.Agree.{Each}
-use Rattle.model.specs.Morph.{Station, Segment, inserted, segmentFrom}
+use Rattle.model.specs.Morph.{Station, Segment, valid, inserted, segmentFrom}
+use Rattle.model.proofs.Tests.{both}
+use Rattle.deltas.specs.Betweens.{keptIn}
 use Rattle.mesh.specs.Stations.{segmentOf}
-use Rattle.mesh.proofs.Rising.{Below, below-of-lt, below-of-not-lt}
+use Rattle.mesh.proofs.Rising.{Below, finite-number, below-of-lt, below-of-not-lt}
 
 -- the two ends, once the station s is inserted
 unfoldable pub narrowedTo : Float → Segment → Station → Segment
@@ -44,6 +47,13 @@ Sorted (a ∷ b ∷ rest) = RisingFrom (a .weight) (b ∷ rest) × Each Number (
 pub first-sorted : (positions normals : Option (List Vector)) → Sorted (record { weight = zero32; positions = none; normals = none } ∷ record { weight = one32; positions = positions; normals = normals } ∷ [])
 unfolding lt isNan ofBits ofFields
 first-sorted positions normals = ((below-of-lt zero32 one32 refl, tt), (refl, (refl, tt)))
+
+-- an in-between that is a station is no NaN
+pub kept-number : (all : List InBetween) (x : Float) → keptIn all x ≡ true → isNan x ≡ false
+kept-number all x h =
+    let v = both (valid x) _ h .0 in
+    let f = both (finite x && not (eq x zero32)) _ v .0 in
+    finite-number x (both (finite x) _ f .0)
 
 -- ---- an inserted station
 module _ (s : Station) (number : Number s) where

@@ -15,8 +15,8 @@ use Rattle.model.proofs.Rowwise.{tabulate-alike, row-count}
 use Rattle.tables.specs.declared.Slot.{Slot}
 use Rattle.tables.specs.Decoded.{spanIn, slotIn}
 use Rattle.tables.specs.Tags.{isMarked}
-use Rattle.mesh.specs.Lent.{deltasIn}
-use Rattle.mesh.specs.Mixed.{rowOrZeros, mixedIn}
+use Rattle.deltas.specs.Deltas.{deltasIn}
+use Rattle.deltas.specs.Mixed.{rowOrZeros, mixedIn}
 use Rattle.mesh.specs.Stations.{longestOf}
 use Rattle.mesh.specs.Blended.{partOfWay, countIn, blendedIn}
 

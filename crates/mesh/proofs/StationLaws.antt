@@ -15,15 +15,15 @@ use Rattle.tables.specs.declared.Header.{Header}
 use Rattle.tables.specs.declared.Slot.{Slot}
 use Rattle.tables.specs.declared.TargetRow.{TargetRow}
 use Rattle.tables.specs.Decoded.{slotIn, targetOf}
-use Rattle.mesh.specs.declared.Station.{Station}
+use Rattle.deltas.specs.declared.Station.{Station}
+use Rattle.deltas.specs.Deltas.{lentIn, deltasIn}
+use Rattle.deltas.specs.Betweens.{betweensIn, stationAt, keptIn}
 use Rattle.mesh.specs.declared.Segment.{Segment}
 use Rattle.mesh.specs.declared.Blend.{Blend}
-use Rattle.mesh.specs.Lent.{lentIn, deltasIn}
 use Rattle.mesh.specs.Blended.{partOfWay, blendedIn}
 use Rattle.mesh.specs.Added.{stationDeltas}
-use Rattle.mesh.specs.Stations.{longestOf, stationFor, segmentFor, Blends, narrowedIn, widenedIn, betweensIn, stationAt, stationsIn, keptIn, widenedBy}
-use Rattle.mesh.proofs.Segments.{narrowedTo, insertedAll, Sorted, first-sorted, inserted-sorted, segment-inserted}
-use Rattle.mesh.proofs.BetweenLaws.{kept-number}
+use Rattle.mesh.specs.Stations.{longestOf, stationFor, segmentFor, Blends, narrowedIn, widenedIn, stationsIn, widenedBy}
+use Rattle.mesh.proofs.Segments.{narrowedTo, insertedAll, Sorted, first-sorted, kept-number, inserted-sorted, segment-inserted}
 use Rattle.mesh.proofs.SlotLaws.{slot-count, longest-inserted, deltas-between}
 
 -- the in-between that a station was read from

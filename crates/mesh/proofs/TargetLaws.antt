@@ -11,11 +11,10 @@ use Rattle.model.specs.Vector.{Vector, _⊙_, _⊞_}
 use Rattle.model.specs.Scene.{InBetween, Target, Primitive}
 use Rattle.model.specs.Morph.{Station, withDeltas, valid, stations, segmentFrom, between, plainTarget, stationTarget, withTarget}
 use Rattle.model.specs.Attributes.{attributesIn, shapeOf, overRows, Reshaped}
-use Rattle.mesh.specs.Stations.{keptIn}
+use Rattle.deltas.specs.Betweens.{keptIn}
+use Rattle.deltas.proofs.DeltaLaws.{no-deltas, over-own}
 use Rattle.mesh.specs.Added.{Added, stationDeltas}
-use Rattle.mesh.proofs.Segments.{insertedAll, Sorted, first-sorted, inserted-sorted}
-use Rattle.mesh.proofs.BetweenLaws.{kept-number}
-use Rattle.mesh.proofs.DeltaLaws.{no-deltas, over-own}
+use Rattle.mesh.proofs.Segments.{insertedAll, Sorted, first-sorted, kept-number, inserted-sorted}
 
 -- as `Morph` has it
 abbrev pub onSlot : (Vector → Vector → Vector) → List Vector → Option (List Vector) → List Vector

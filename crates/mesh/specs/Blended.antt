@@ -8,8 +8,8 @@ use Rattle.model.specs.Lists.{pick, tabulate}
 use Rattle.model.specs.Vector.{Vector}
 use Rattle.tables.specs.declared.Slot.{Slot}
 use Rattle.tables.specs.Tags.{isMarked}
-use Rattle.mesh.specs.Lent.{deltasIn}
-use Rattle.mesh.specs.Mixed.{mixedIn}
+use Rattle.deltas.specs.Deltas.{deltasIn}
+use Rattle.deltas.specs.Mixed.{mixedIn}
 
 -- how many: as the target's own slot has, else n
 abbrev pub countIn : List Float → Slot → ℕ → ℕ

@@ -1,5 +1,4 @@
 pub mod Lent
-pub mod Mixed
 pub mod Stations
 pub mod Blended
 pub mod Added

@@ -1,25 +1,23 @@
 -- The stations of a target as code keeps them: of all stations only the two ends of a segment, and the longest slots. Definitions only.
 use mathlib.Core.Path.{_≡_}
-use mathlib.Core.Bool.{Bool, _&&_}
 use mathlib.Core.List.{List, [], _∷_}
 use mathlib.Core.Option.{Option, none}
-use Prim.Native.Nat.{ℕ, _+_, _/_, max}
-use lib.Dec.{eqb}
-use lib.Ieee.{Float, lt, le, eq}
-use lib.ListN.{length, getD}
+use Prim.Native.Nat.{ℕ, _/_, max}
+use lib.Ieee.{Float, lt, le}
+use lib.ListN.{length}
 use Rattle.float.specs.F32.{zero32}
-use Rattle.model.specs.Lists.{pick, keep, tabulate, orElse}
+use Rattle.model.specs.Lists.{pick, tabulate, orElse}
 use Rattle.model.specs.Vector.{Vector}
 use Rattle.model.specs.Scene.{InBetween}
 use Rattle.model.specs.Morph as morph
 use Rattle.animation.specs.declared.Part.{Part}
 use Rattle.tables.specs.declared.Header.{Header}
-use Rattle.tables.specs.Records.{inBetweenRow}
-use Rattle.tables.specs.Decoded.{slotIn, inBetweenOf, recordsIn}
-use Rattle.mesh.specs.declared.Station.{Station}
+use Rattle.tables.specs.Decoded.{slotIn}
+use Rattle.deltas.specs.declared.Station.{Station}
+use Rattle.deltas.specs.Deltas.{deltasIn}
+use Rattle.deltas.specs.Betweens.{stationAt, keptIn}
 use Rattle.mesh.specs.declared.Segment.{Segment}
 use Rattle.mesh.specs.declared.Blend.{Blend}
-use Rattle.mesh.specs.Lent.{lentIn, deltasIn}
 
 -- ---- of the model: the segment of w in a list of two stations or more, and the longest of the slots, an absent one having no entries
 
@@ -68,24 +66,8 @@ widenedIn floats w b s = record {
 
 -- ---- the in-betweens that a part names
 
-abbrev pub betweensIn : List ℕ → List Float → Header → Part → List InBetween
-betweensIn words floats h betweens = recordsIn (λ i. inBetweenOf (lentIn words floats h) (inBetweenRow words (h .meshes .«in_betweens») i)) betweens
-
-abbrev pub stationAt : List ℕ → List Float → Header → Part → ℕ → Station
-stationAt words floats h betweens k =
-    let r = inBetweenRow words (h .meshes .«in_betweens») (betweens .at + k) in
-    record { weight = getD floats (r .weight) zero32; positions = r .positions; normals = r .normals }
-
 abbrev pub stationsIn : List ℕ → List Float → Header → Part → List Station
 stationsIn words floats h betweens = tabulate (betweens .count) (stationAt words floats h betweens)
-
--- how many have a weight
-abbrev pub sharing : List InBetween → Float → ℕ
-sharing all w = length (keep (λ (c : InBetween). eq (c .weight) w) all)
-
--- the weight of an in-between that is valid, and has its weight alone
-abbrev pub keptIn : List InBetween → Float → Bool
-keptIn all w = morph.valid w && eqb (sharing all w) 1
 
 -- the blend with s among its stations, if it is one
 unfoldable pub widenedBy : List Float → Float → List InBetween → Blend → Station → Blend

@@ -1,13 +1,13 @@
 use crate::Blend;
 use crate::Segment;
-use crate::Station;
-use crate::adding::add_between;
-use crate::adding::deltas_in;
-use crate::betweens::is_kept;
-use crate::betweens::station_at;
 use crate::stations::longer;
 use crate::stations::widened;
 use animation::Part;
+use deltas::Station;
+use deltas::add_between;
+use deltas::deltas_in;
+use deltas::is_kept;
+use deltas::station_at;
 use tables::Header;
 use tables::Slot;
 use tables::TargetRow;
@@ -17,9 +17,10 @@ ghost use Rattle.model.specs.Vector.{_⊞_};
 ghost use Rattle.model.specs.Morph.{withDeltas, stations};
 ghost use Rattle.model.specs.Attributes.{overRows};
 ghost use Rattle.tables.specs.Decoded.{slotIn, targetOf};
-ghost use Rattle.mesh.specs.Lent.{lentIn};
+ghost use Rattle.deltas.specs.Deltas.{lentIn};
+ghost use Rattle.deltas.specs.Betweens.{stationAt, betweensIn};
 ghost use Rattle.mesh.specs.Added.{Added, stationDeltas};
-ghost use Rattle.mesh.specs.Stations.{stationAt, stationsIn, widenedBy, betweensIn, Blends};
+ghost use Rattle.mesh.specs.Stations.{stationsIn, widenedBy, Blends};
 ghost use Rattle.mesh.specs.Blended.{countIn, blendedIn};
 
 // The blend with in-between k among its stations, if it is one.

@@ -1,25 +1,15 @@
 // Morphed vertices, by the scope paper's rules: targets are added, one after the other, to positions, normals and tangents
 // that lie in lent flat slices.
 use animation::Part;
+use deltas::Station;
 use tables::Header;
-use tables::Slot;
 ghost use Rattle.model.specs.Morph.{withTargets};
 ghost use Rattle.model.specs.Attributes.{attributesIn, shapeOf, Reshaped};
 ghost use Rattle.mesh.specs.Lent.{targetsIn};
 
-mod adding;
-mod betweens;
 mod blending;
-mod records;
 mod stations;
 mod targets;
-
-// An in-between that stands among 0 and 1, with its deltas.
-pub struct Station {
-    pub weight: f32,
-    pub positions: Slot,
-    pub normals: Slot,
-}
 
 // Two neighbouring stations.
 pub struct Segment {

@@ -1,12 +1,12 @@
 use crate::Blend;
 use crate::Segment;
-use crate::Station;
-use crate::adding::deltas_in;
+use deltas::Station;
+use deltas::deltas_in;
 use tables::Slot;
 ghost use mathlib.Core.Path.{_≡_};
 ghost use Prim.Native.Nat.{_/_, max};
 ghost use lib.ListN.{length};
-ghost use Rattle.mesh.specs.Lent.{deltasIn};
+ghost use Rattle.deltas.specs.Deltas.{deltasIn};
 ghost use Rattle.mesh.specs.Stations.{narrowedIn, widenedIn};
 
 // The segment of w, once the station s stands among those that g was found in. No list is kept: s takes the place of an end, or

@@ -1,10 +1,10 @@
-use crate::adding::add_scaled;
-use crate::adding::add_tangents;
-use crate::adding::deltas_in;
-use crate::betweens::has_valid;
 use crate::blending::add_stations;
-use crate::records::target_at;
 use animation::Part;
+use deltas::add_scaled;
+use deltas::add_tangents;
+use deltas::deltas_in;
+use deltas::has_valid;
+use deltas::target_at;
 use tables::Header;
 use tables::TargetRow;
 ghost use Prim.Native.Nat.{_+_};
@@ -14,7 +14,7 @@ ghost use Rattle.model.specs.Morph.{withTarget};
 ghost use Rattle.model.specs.Attributes.{attributesIn, shapeOf, Reshaped};
 ghost use Rattle.tables.specs.Records.{targetRow};
 ghost use Rattle.tables.specs.Decoded.{targetOf};
-ghost use Rattle.mesh.specs.Lent.{lentIn, deltasIn};
+ghost use Rattle.deltas.specs.Deltas.{lentIn, deltasIn};
 ghost use Rattle.mesh.specs.Added.{Added};
 
 // Adds w times the deltas of a target to positions and normals.

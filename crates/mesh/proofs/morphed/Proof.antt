@@ -12,7 +12,8 @@ use Rattle.model.specs.Attributes.{attributesIn, shapeOf, Reshaped}
 use Rattle.model.proofs.ListLaws.{length-tabulate, getD-tabulate}
 use Rattle.tables.specs.Records.{targetRow}
 use Rattle.tables.specs.Decoded.{targetOf}
-use Rattle.mesh.specs.Lent.{lentIn, targetsIn}
+use Rattle.deltas.specs.Deltas.{lentIn}
+use Rattle.mesh.specs.Lent.{targetsIn}
 use Rattle.mesh.proofs.Sizes.{lent-rows}
 use Rattle.mesh.proofs.Morphing.{Morphed, more-targets, all-targets, morphed-start, morphed-more, morphed-end}
 use Rattle.mesh.proofs.morphed.Statement.{statement}

@@ -6,7 +6,7 @@ use Rattle.model.specs.Lists.{rowsIn, tabulate}
 use Rattle.model.specs.Vector.{_⊞_}
 use Rattle.model.specs.Morph.{withDeltas}
 use Rattle.model.specs.Attributes.{overRows}
-use Rattle.mesh.specs.Mixed.{mixedIn}
+use Rattle.deltas.specs.Mixed.{mixedIn}
 use Rattle.mesh.specs.Blended.{blendedIn}
 use Rattle.mesh.proofs.blending.add_blended.Statement.{statement}
 use Rattle.mesh.proofs.blending.add_blended.Tie as tie

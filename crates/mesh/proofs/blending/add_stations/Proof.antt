@@ -9,7 +9,7 @@ use Rattle.model.specs.Vector.{Vector, _⊞_}
 use Rattle.model.specs.Morph.{withDeltas}
 use Rattle.model.specs.Attributes.{overRows}
 use Rattle.tables.specs.Decoded.{targetOf}
-use Rattle.mesh.specs.Lent.{lentIn}
+use Rattle.deltas.specs.Deltas.{lentIn}
 use Rattle.mesh.proofs.StationLaws.{position-deltas, normal-deltas}
 use Rattle.mesh.proofs.blending.add_stations.Statement.{statement}
 use Rattle.mesh.proofs.blending.add_stations.Tie as tie

@@ -8,7 +8,7 @@ use denote.Ref.{now}
 use lib.Ieee.{Float}
 use lib.ListN.{length}
 use Rattle.model.specs.Lists.{pick}
-use Rattle.mesh.specs.Lent.{deltasIn}
+use Rattle.deltas.specs.Deltas.{deltasIn}
 use Rattle.mesh.proofs.blending.count_of.Statement.{statement}
 use Rattle.mesh.proofs.blending.count_of.Tie as tie
 

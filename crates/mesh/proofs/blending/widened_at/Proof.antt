@@ -4,7 +4,8 @@ use mathlib.Core.Bool.{Bool}
 use borrow.Author.Needs.{needs}
 use denote.Ref.{now}
 use Rattle.model.specs.Lists.{pick}
-use Rattle.mesh.specs.Stations.{betweensIn, widenedIn, widenedBy}
+use Rattle.deltas.specs.Betweens.{betweensIn}
+use Rattle.mesh.specs.Stations.{widenedIn, widenedBy}
 use Rattle.mesh.proofs.blending.widened_at.Statement.{statement}
 use Rattle.mesh.proofs.blending.widened_at.Tie as tie
 

@@ -8,7 +8,8 @@ use lib.ListN.{take}
 use lib.Seq.{take-all}
 use Rattle.model.specs.Lists.{foldl}
 use Rattle.model.proofs.ListLaws.{length-tabulate, getD-tabulate, foldl-more}
-use Rattle.mesh.specs.Stations.{betweensIn, stationAt, stationsIn, widenedBy}
+use Rattle.deltas.specs.Betweens.{betweensIn, stationAt}
+use Rattle.mesh.specs.Stations.{stationsIn, widenedBy}
 use Rattle.mesh.proofs.blending.widened_by_all.Statement.{statement}
 use Rattle.mesh.proofs.blending.widened_by_all.Tie as tie
 

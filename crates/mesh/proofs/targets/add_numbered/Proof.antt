@@ -6,7 +6,7 @@ use Rattle.model.specs.Morph.{withTarget}
 use Rattle.model.specs.Attributes.{attributesIn, shapeOf, Reshaped}
 use Rattle.tables.specs.declared.TargetRow.{TargetRow}
 use Rattle.tables.specs.Decoded.{targetOf}
-use Rattle.mesh.specs.Lent.{lentIn}
+use Rattle.deltas.specs.Deltas.{lentIn}
 use Rattle.mesh.proofs.targets.add_numbered.Statement.{statement}
 use Rattle.mesh.proofs.targets.add_numbered.Tie as tie
 

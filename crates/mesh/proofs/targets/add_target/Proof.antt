@@ -9,7 +9,7 @@ use Rattle.model.specs.Vector.{Vector, _⊙_, _⊞_}
 use Rattle.model.specs.Morph.{withDeltas}
 use Rattle.model.specs.Attributes.{overRows}
 use Rattle.tables.specs.Decoded.{targetOf}
-use Rattle.mesh.specs.Lent.{lentIn}
+use Rattle.deltas.specs.Deltas.{lentIn}
 use Rattle.mesh.proofs.SlotLaws.{slot-rows}
 use Rattle.mesh.proofs.TargetLaws.{plusXyz, unmoved, moved-by-stations, moved-plainly}
 use Rattle.mesh.proofs.targets.add_target.Statement.{statement}

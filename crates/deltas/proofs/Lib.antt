@@ -1,0 +1,4 @@
+pub mod Floatwise
+pub mod DeltaLaws
+pub mod AddLaws
+pub mod BetweenLaws
