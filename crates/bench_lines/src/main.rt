@@ -2,7 +2,7 @@
 use animation::Part;
 use libc::STDOUT_FILENO;
 use lists::text;
-use skin::Root;
+use skin_roots::Root;
 use tables::Graph;
 use tables::Header;
 use tables::Meshes;
@@ -68,7 +68,7 @@ fn print_root(root: Root) {
 
 // The base transforms of all nodes are the first ten floats. There are no weights, so any slice does for them.
 fn root_of(words: &[u32], floats: &[f32], skin: u32) -> Root {
-    skin::skin_root(words, floats, floats, floats, header(), skin)
+    skin_roots::skin_root(words, floats, floats, floats, header(), skin)
 }
 
 fn main() {

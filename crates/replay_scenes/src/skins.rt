@@ -68,7 +68,7 @@ pub fn root_is_same(
     h: Header,
 ) -> bool {
     let id = lists::read_word();
-    let root = skin::skin_root(words, floats, node_weights, mesh_weights, h, id);
+    let root = skin_roots::skin_root(words, floats, node_weights, mesh_weights, h, id);
     let number = lists::read_word();
     let node = lists::read_word();
     number == root.number && node == root.node

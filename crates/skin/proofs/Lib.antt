@@ -1,10 +1,5 @@
 pub mod Answering
 pub mod Binding
 pub mod Blending
-pub mod Every
-pub mod Leads
-pub mod Marked
 pub mod Palettes
-pub mod Rooting
 pub mod Rows
-pub mod Upward

@@ -2,5 +2,3 @@ pub mod Weights
 pub mod Skeletons
 pub mod Palette
 pub mod Calls
-pub mod Lines
-pub mod Roots

@@ -2,7 +2,7 @@ use crate::Answer;
 use crate::Joints;
 use crate::palette::palette_count;
 use crate::palette::write_palette;
-use crate::skeletons::wide;
+use skin_roots::wide;
 use tables::Header;
 ghost use mathlib.Core.Path.{_≡_};
 ghost use Rattle.checks.specs.Drawn.{lentAs};

@@ -1,18 +1,16 @@
-// The palette of a skin, the root of its joints, and the weights that a node's mesh is blended with: the port of skin.rs and
-// of the scene part of skinning.rs. World matrices come in lent slots, a code and sixteen floats a node.
+// The palette of a skin, and the weights that a node's mesh is blended with: the port of skin.rs and of the scene part of
+// skinning.rs, of which `skin_roots` has the root of a skin. World matrices come in lent slots, a code and sixteen floats a
+// node.
 use tables::SkeletonRow;
 
 mod calls;
-mod lines;
 mod palette;
-mod roots;
 mod skeletons;
 mod weights;
 
 pub use calls::joint_matrices_with;
 pub use palette::palette_count;
 pub use palette::write_palette;
-pub use roots::skin_root;
 pub use weights::effective_morph_weights;
 pub use weights::has_mesh;
 pub use weights::weights_number;
@@ -29,13 +27,6 @@ pub enum Joints {
 pub struct Answer {
     pub number: u32,
     pub length: usize,
-}
-
-// A refusal number, or 0, and the id of a node.
-#[repr(C)]
-pub struct Root {
-    pub number: u32,
-    pub node: u32,
 }
 
 // The skeleton of a skin, if both ids name something.

@@ -1,8 +1,8 @@
 use crate::Bound;
 use crate::Joints;
 use crate::skeletons::skeleton_of;
-use crate::skeletons::wide;
 use scene::Mat4;
+use skin_roots::wide;
 use tables::Header;
 ghost use mathlib.Core.Path.{_≡_};
 ghost use mathlib.Core.List.{List, [], _++_};

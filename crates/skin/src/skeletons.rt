@@ -1,14 +1,7 @@
 use crate::Bound;
+use skin_roots::wide;
 use tables::Header;
-ghost use mathlib.Core.Path.{_≡_};
-ghost use Prim.Native.Nat.{_<_};
 ghost use Rattle.skin.specs.Skeletons.{BoundTo};
-
-pub(crate) fn wide(x: u32) -> usize
-    ensures { λ r. ⌜ (r ≡ x) × (r < 4294967296) ⌝ }
-{
-    x as usize
-}
 
 // The skeleton of a skin.
 pub(crate) fn skeleton_of(words: &[u32], h: Header, skin: u32) -> Bound

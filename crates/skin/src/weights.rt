@@ -1,4 +1,4 @@
-use crate::skeletons::wide;
+use skin_roots::wide;
 use tables::Header;
 use tables::MeshRow;
 use tables::NodeRow;

@@ -1,10 +1,10 @@
 // The C functions on skins and morph weights of a lent scene; include/skin_entries.h declares them.
 use skin::Answer;
-use skin::Root;
+use skin_roots::Root;
 use tables::Header;
 ghost use Rattle.checks.specs.Drawn.{lentAs};
+ghost use Rattle.skin_roots.specs.Roots.{RootAnswered};
 ghost use Rattle.skin.specs.Calls.{Answered};
-ghost use Rattle.skin.specs.Roots.{RootAnswered};
 ghost use Rattle.skin_entries.specs.Handed.{Weighed};
 
 // Writes the palette of a node, from worlds that are given, to the start of `out`. Answers 1, 2, 6, 7, 9, 10 or 0.
@@ -47,7 +47,7 @@ pub extern "C" fn skin_root(
 ) -> Root
     ensures { λ r. ⌜ RootAnswered (lentAs (now (words .entry)) (now (floats .entry)) (now («node_weights» .entry)) (now («mesh_weights» .entry)) header) skin r ⌝ }
 {
-    skin::skin_root(words, floats, node_weights, mesh_weights, header, skin)
+    skin_roots::skin_root(words, floats, node_weights, mesh_weights, header, skin)
 }
 
 // The weights that a node's mesh is blended with, copied to the start of `out` as far as there is room. Answers 1, 2, 7 or

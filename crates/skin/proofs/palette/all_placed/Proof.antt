@@ -7,8 +7,8 @@ use borrow.Author.Tests.{not-true, not-false}
 use denote.Ref.{now}
 use lib.ListN.{length, drop}
 use Rattle.model.specs.Lists.{every}
+use Rattle.skin_roots.proofs.Every.{one-fails, one-passes, all-pass}
 use Rattle.skin.specs.Palette.{hasWorld}
-use Rattle.skin.proofs.Every.{one-fails, one-passes, all-pass}
 use Rattle.skin.proofs.palette.all_placed.Statement.{statement}
 use Rattle.skin.proofs.palette.all_placed.Tie as tie
 

@@ -1,0 +1,5 @@
+pub mod Every
+pub mod Leads
+pub mod Marked
+pub mod Rooting
+pub mod Upward
