@@ -24,8 +24,8 @@ use Rattle.tables.specs.Records.{nodeRow, meshRow, primitiveRow}
 use Rattle.tables.specs.Tags.{isMarked}
 use Rattle.tables.specs.Decoded.{Lent, primitiveOf, meshOf, sceneOf}
 use Rattle.tables.proofs.Decoding.{node-count, node-at, mesh-at, no-mesh}
+use Rattle.row_checks.specs.Places.{fitsIn, slotFits, meshFits, primitiveFits}
 use Rattle.checks.specs.declared.Table.the-variants as table
-use Rattle.checks.specs.Places.{fitsIn, slotFits, meshFits, primitiveFits}
 use Rattle.checks.specs.Drawn.{tablesNumber, sizesOf, sumBelow}
 use Rattle.checks.specs.Checked.{Checked}
 use Rattle.shapes.specs.declared.Lengths.{Lengths}

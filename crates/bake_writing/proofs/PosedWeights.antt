@@ -43,9 +43,9 @@ use Rattle.tables.specs.Records.{nodeRow, channelRow, meshRow, primitiveRow, ta
 use Rattle.tables.specs.Tags.{propertyFor, trackFor}
 use Rattle.tables.specs.Decoded.{Lent, nodeOf, targetOf, primitiveOf, meshOf, sceneOf}
 use Rattle.tables.proofs.Decoding.{node-count, node-at, channel-at}
+use Rattle.row_checks.specs.Places.{fitsIn}
+use Rattle.row_checks.specs.Bounds.{slotWithin, primitiveWithin}
 use Rattle.checks.specs.declared.Table.the-variants as table
-use Rattle.checks.specs.Places.{fitsIn}
-use Rattle.checks.specs.Bounds.{slotWithin, primitiveWithin}
 use Rattle.checks.specs.Drawn.{tablesNumber}
 use Rattle.checks.proofs.Clearing.{checked}
 use Rattle.pose_slots.specs.Slots.{room}

@@ -18,7 +18,7 @@ use Rattle.tables.specs.declared.Header.{Header}
 use Rattle.tables.specs.declared.MeshRow.{MeshRow}
 use Rattle.tables.specs.Records.{nodeRow, meshRow, skeletonRow}
 use Rattle.tables.specs.Decoded.{Lent, meshOf, sceneOf}
-use Rattle.checks.specs.Bounds.{skeletonWithin}
+use Rattle.row_checks.specs.Bounds.{skeletonWithin}
 use Rattle.checks.specs.Drawn.{tablesNumber}
 use Rattle.shapes.specs.Rest.{PutOut}
 use Rattle.bake_stages.specs.Scratch.{Slices, roomOf, scratchLeft}

@@ -16,10 +16,10 @@ use Rattle.animation.specs.declared.Part.{Part}
 use Rattle.tables.specs.declared.NodeRow.{NodeRow}
 use Rattle.tables.specs.Records.{nodeRow}
 use Rattle.tables.specs.Decoded.{Lent, spanIn, nodeOf, sceneOf}
+use Rattle.row_checks.specs.declared.Sizes.{Sizes}
+use Rattle.row_checks.specs.Places.{fitsIn, slotFits, baseFloats, nodeFits}
 use Rattle.checks.specs.declared.Table.{Table}
 use Rattle.checks.specs.declared.Table.the-variants as table
-use Rattle.checks.specs.declared.Sizes.{Sizes}
-use Rattle.checks.specs.Places.{fitsIn, slotFits, baseFloats, nodeFits}
 use Rattle.checks.specs.Drawn.{drawn, lowerOf, lowestBelow, sumBelow, nodeNumber, channelNumber, meshNumber, primitiveNumber, targetNumber, inBetweenNumber, skinNumber, skeletonNumber, rowNumber, tableOf, recordWords, countWithin, wholeNumber, rootsNumber, childCount, childrenNumber, listedNumber, sizesOf, tablesNumber}
 use Rattle.checks.specs.Checked.{Sound, Checked}
 

@@ -10,10 +10,10 @@ use Rattle.animation.specs.Tracks as tracks
 use Rattle.tables.specs.Records.{nodeRow, channelRow, meshRow, primitiveRow, targetRow, inBetweenRow, skinRow, skeletonRow}
 use Rattle.tables.specs.Tags.{trackFor}
 use Rattle.tables.specs.Decoded.{Lent, sceneOf}
+use Rattle.row_checks.specs.Places.{fitsIn, nodeFits, meshFits, primitiveFits, targetFits, inBetweenFits, skeletonFits}
+use Rattle.row_checks.specs.Bounds.{nodeWithin, tagsKnown, meshWithin, primitiveWithin, targetWithin, inBetweenWithin, skinWithin, skeletonWithin}
 use Rattle.checks.specs.declared.Table.{Table}
 use Rattle.checks.specs.declared.Table.the-variants as table
-use Rattle.checks.specs.Places.{fitsIn, nodeFits, meshFits, primitiveFits, targetFits, inBetweenFits, skeletonFits}
-use Rattle.checks.specs.Bounds.{nodeWithin, tagsKnown, meshWithin, primitiveWithin, targetWithin, inBetweenWithin, skinWithin, skeletonWithin}
 use Rattle.checks.specs.Drawn.{tableOf, recordWords, sizesOf, sumBelow, childCount}
 
 -- record i of a table: its parts lie in their tables, and it is within its limits

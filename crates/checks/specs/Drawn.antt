@@ -15,11 +15,11 @@ use Rattle.tables.specs.declared.Header.{Header}
 use Rattle.tables.specs.Records.{nodeWords, channelWords, meshWords, primitiveWords, targetWords, inBetweenWords, skinWords, skeletonWords, nodeRow, channelRow, meshRow, primitiveRow, targetRow, inBetweenRow, skinRow, skeletonRow}
 use Rattle.tables.specs.Tags.{trackFor}
 use Rattle.tables.specs.Decoded.{Lent}
-use Rattle.checks.specs.declared.Sizes.{Sizes}
+use Rattle.row_checks.specs.declared.Sizes.{Sizes}
+use Rattle.row_checks.specs.Places.{fitsIn, nodeFits, meshFits, primitiveFits, targetFits, inBetweenFits, skeletonFits}
+use Rattle.row_checks.specs.Bounds.{nodeWithin, tagsKnown, meshWithin, primitiveWithin, targetWithin, inBetweenWithin, skinWithin, skeletonWithin}
 use Rattle.checks.specs.declared.Table.{Table}
 use Rattle.checks.specs.declared.Table.the-variants as table
-use Rattle.checks.specs.Places.{fitsIn, nodeFits, meshFits, primitiveFits, targetFits, inBetweenFits, skeletonFits}
-use Rattle.checks.specs.Bounds.{nodeWithin, tagsKnown, meshWithin, primitiveWithin, targetWithin, inBetweenWithin, skinWithin, skeletonWithin}
 
 -- ---- numbers
 

@@ -1,4 +1,2 @@
-pub mod Places
-pub mod Bounds
 pub mod Drawn
 pub mod Checked

@@ -1,8 +1,6 @@
 // What the tables of a lent scene draw: 1 where a part leaves its table, 2 where a limit is passed, over all that is lent,
 // used or not. docs/TABLES.md has the layout and the limits.
-mod limits;
 mod numbers;
-mod places;
 mod records;
 
 pub use numbers::child_entries;
@@ -18,15 +16,4 @@ pub enum Table {
     InBetweens,
     Skins,
     Skeletons,
-}
-
-// The lengths of what parts may lie in: slices, and tables whose records are listed by others.
-pub struct Sizes {
-    pub words: usize,
-    pub floats: usize,
-    pub node_weights: usize,
-    pub mesh_weights: usize,
-    pub primitives: usize,
-    pub targets: usize,
-    pub in_betweens: usize,
 }

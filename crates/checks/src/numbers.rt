@@ -1,10 +1,10 @@
-use crate::Sizes;
 use crate::Table;
 use crate::records::drawn;
 use crate::records::lower;
 use crate::records::rows_number;
 use crate::records::table_of;
 use animation::Part;
+use row_checks::Sizes;
 use tables::Header;
 ghost use mathlib.Core.Path.{_≡_};
 ghost use Prim.Native.Nat.{_+_, min};

@@ -24,7 +24,7 @@ use Rattle.tables.specs.declared.Slot.{Slot}
 use Rattle.tables.specs.declared.PrimitiveRow.{PrimitiveRow}
 use Rattle.tables.specs.Tags.{isMarked}
 use Rattle.tables.specs.Decoded.{Lent, spanIn, primitiveOf}
-use Rattle.checks.specs.Places.{fitsIn, slotFits}
+use Rattle.row_checks.specs.Places.{fitsIn, slotFits}
 use Rattle.checks.specs.Drawn.{sumBelow}
 use Rattle.shapes.specs.declared.Lengths.{Lengths}
 use Rattle.shapes.specs.Rest.{slotFloats, Sized, slotCount, rowLengths, RowFits, PutAt}

@@ -15,7 +15,7 @@ use Rattle.animation.specs.declared.Part.{Part}
 use Rattle.tables.specs.declared.Slot.{Slot}
 use Rattle.tables.specs.declared.PrimitiveRow.{PrimitiveRow}
 use Rattle.tables.specs.Tags.{isMarked}
-use Rattle.checks.specs.Bounds.{isKnown, slotWithin, primitiveWithin}
+use Rattle.row_checks.specs.Bounds.{isKnown, slotWithin, primitiveWithin}
 use Rattle.checks.specs.Drawn.{sumBelow}
 use Rattle.shapes.specs.declared.Lengths.{Lengths}
 use Rattle.shapes.specs.Rest.{slotCount, rowLengths, plusLengths, rowAt, lengthsBelow, AtMost, Counted}

@@ -18,8 +18,8 @@ use Rattle.tables.specs.declared.PrimitiveRow.{PrimitiveRow}
 use Rattle.tables.specs.Records.{primitiveRow}
 use Rattle.tables.specs.Tags.{isMarked}
 use Rattle.tables.specs.Decoded.{Lent, spanIn, recordsIn, primitiveOf}
-use Rattle.checks.specs.Places.{fitsIn, slotFits}
-use Rattle.checks.specs.Bounds.{primitiveWithin}
+use Rattle.row_checks.specs.Places.{fitsIn, slotFits}
+use Rattle.row_checks.specs.Bounds.{primitiveWithin}
 use Rattle.checks.specs.Drawn.{sumBelow}
 use Rattle.shapes.specs.declared.Lengths.{Lengths}
 

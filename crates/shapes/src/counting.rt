@@ -5,7 +5,7 @@ use tables::Slot;
 ghost use mathlib.Core.Path.{_≡_};
 ghost use mathlib.Core.Bool.{true};
 ghost use Prim.Native.Nat.{_+_, _≤_, _<_};
-ghost use Rattle.checks.specs.Bounds.{primitiveWithin};
+ghost use Rattle.row_checks.specs.Bounds.{primitiveWithin};
 ghost use Rattle.shapes.specs.Rest.{slotCount, rowLengths, plusLengths, AtMost, rowAt, lengthsBelow, Counted};
 
 fn slot_count(s: Slot) -> usize

@@ -2,8 +2,8 @@
 use mathlib.Core.Path.{_∙_, ap}
 use Prim.Native.Nat.{ℕ}
 use borrow.Author.Needs.{needs}
+use Rattle.row_checks.specs.Places.{fitsIn}
 use Rattle.checks.specs.Drawn.{drawn}
-use Rattle.checks.specs.Places.{fitsIn}
 use Rattle.checks.proofs.numbers.table_number.Statement.{statement}
 use Rattle.checks.proofs.numbers.table_number.Tie as tie
 

@@ -4,7 +4,7 @@ use mathlib.Core.Path.{_∙_, ap}
 use borrow.Author.Needs.{needs}
 use denote.Ref.{now}
 use Rattle.animation.specs.Tracks.{tableNumber}
-use Rattle.checks.specs.Bounds.{tagsKnown}
+use Rattle.row_checks.specs.Bounds.{tagsKnown}
 use Rattle.checks.specs.Drawn.{drawn, lowerOf, channelNumber}
 use Rattle.tables.specs.Tags.{trackFor}
 use Rattle.checks.proofs.records.channel_number.Statement.{statement}

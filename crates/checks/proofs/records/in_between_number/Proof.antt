@@ -1,9 +1,9 @@
 -- `checks::records::in_between_number` meets its contract. Assumes nothing.
 use mathlib.Core.Path.{_∙_, ap}
 use borrow.Author.Needs.{needs}
-use Rattle.checks.specs.Bounds.{inBetweenWithin}
+use Rattle.row_checks.specs.Places.{inBetweenFits}
+use Rattle.row_checks.specs.Bounds.{inBetweenWithin}
 use Rattle.checks.specs.Drawn.{drawn, inBetweenNumber}
-use Rattle.checks.specs.Places.{inBetweenFits}
 use Rattle.checks.proofs.records.in_between_number.Statement.{statement}
 use Rattle.checks.proofs.records.in_between_number.Tie as tie
 

@@ -1,9 +1,9 @@
 -- `checks::records::mesh_number` meets its contract. Assumes nothing.
 use mathlib.Core.Path.{_∙_, ap}
 use borrow.Author.Needs.{needs}
-use Rattle.checks.specs.Bounds.{meshWithin}
+use Rattle.row_checks.specs.Places.{meshFits}
+use Rattle.row_checks.specs.Bounds.{meshWithin}
 use Rattle.checks.specs.Drawn.{drawn, meshNumber}
-use Rattle.checks.specs.Places.{meshFits}
 use Rattle.checks.proofs.records.mesh_number.Statement.{statement}
 use Rattle.checks.proofs.records.mesh_number.Tie as tie
 

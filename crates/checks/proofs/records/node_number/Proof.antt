@@ -1,9 +1,9 @@
 -- `checks::records::node_number` meets its contract. Assumes nothing.
 use mathlib.Core.Path.{_∙_, ap}
 use borrow.Author.Needs.{needs}
-use Rattle.checks.specs.Bounds.{nodeWithin}
+use Rattle.row_checks.specs.Places.{nodeFits}
+use Rattle.row_checks.specs.Bounds.{nodeWithin}
 use Rattle.checks.specs.Drawn.{drawn, nodeNumber}
-use Rattle.checks.specs.Places.{nodeFits}
 use Rattle.checks.proofs.records.node_number.Statement.{statement}
 use Rattle.checks.proofs.records.node_number.Tie as tie
 

@@ -1,9 +1,9 @@
 -- `checks::records::primitive_number` meets its contract. Assumes nothing.
 use mathlib.Core.Path.{_∙_, ap}
 use borrow.Author.Needs.{needs}
-use Rattle.checks.specs.Bounds.{primitiveWithin}
+use Rattle.row_checks.specs.Places.{primitiveFits}
+use Rattle.row_checks.specs.Bounds.{primitiveWithin}
 use Rattle.checks.specs.Drawn.{drawn, primitiveNumber}
-use Rattle.checks.specs.Places.{primitiveFits}
 use Rattle.checks.proofs.records.primitive_number.Statement.{statement}
 use Rattle.checks.proofs.records.primitive_number.Tie as tie
 

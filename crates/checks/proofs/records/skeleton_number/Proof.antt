@@ -1,9 +1,9 @@
 -- `checks::records::skeleton_number` meets its contract. Assumes nothing.
 use mathlib.Core.Path.{_∙_, ap}
 use borrow.Author.Needs.{needs}
-use Rattle.checks.specs.Bounds.{skeletonWithin}
+use Rattle.row_checks.specs.Places.{skeletonFits}
+use Rattle.row_checks.specs.Bounds.{skeletonWithin}
 use Rattle.checks.specs.Drawn.{drawn, skeletonNumber}
-use Rattle.checks.specs.Places.{skeletonFits}
 use Rattle.checks.proofs.records.skeleton_number.Statement.{statement}
 use Rattle.checks.proofs.records.skeleton_number.Tie as tie
 

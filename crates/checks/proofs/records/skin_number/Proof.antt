@@ -2,7 +2,7 @@
 use mathlib.Core.Bool.{true}
 use mathlib.Core.Path.{_∙_, ap}
 use borrow.Author.Needs.{needs}
-use Rattle.checks.specs.Bounds.{skinWithin}
+use Rattle.row_checks.specs.Bounds.{skinWithin}
 use Rattle.checks.specs.Drawn.{drawn, skinNumber}
 use Rattle.checks.proofs.records.skin_number.Statement.{statement}
 use Rattle.checks.proofs.records.skin_number.Tie as tie

@@ -1,9 +1,9 @@
 -- `checks::records::target_number` meets its contract. Assumes nothing.
 use mathlib.Core.Path.{_∙_, ap}
 use borrow.Author.Needs.{needs}
-use Rattle.checks.specs.Bounds.{targetWithin}
+use Rattle.row_checks.specs.Places.{targetFits}
+use Rattle.row_checks.specs.Bounds.{targetWithin}
 use Rattle.checks.specs.Drawn.{drawn, targetNumber}
-use Rattle.checks.specs.Places.{targetFits}
 use Rattle.checks.proofs.records.target_number.Statement.{statement}
 use Rattle.checks.proofs.records.target_number.Tie as tie
 

@@ -6,7 +6,7 @@ use native.Mathlib.Omega.{arith}
 use borrow.Author.Needs.{needs}
 use denote.Ref.{now}
 use Rattle.tables.specs.declared.PrimitiveRow.{PrimitiveRow}
-use Rattle.checks.specs.Bounds.{primitiveWithin}
+use Rattle.row_checks.specs.Bounds.{primitiveWithin}
 use Rattle.shapes.specs.declared.Lengths.{Lengths}
 use Rattle.shapes.specs.Rest.{rowLengths, plusLengths, lengthsBelow, AtMost}
 use Rattle.shapes.proofs.Sums.{row-at-most, small, sums-small, next-sum, no-sum}

@@ -7,7 +7,7 @@ use native.Mathlib.Omega.{arith}
 use borrow.Author.Needs.{needs}
 use denote.Ref.{now}
 use Rattle.tables.specs.declared.PrimitiveRow.{PrimitiveRow}
-use Rattle.checks.specs.Bounds.{primitiveWithin}
+use Rattle.row_checks.specs.Bounds.{primitiveWithin}
 use Rattle.checks.specs.Drawn.{lentAs}
 use Rattle.shapes.specs.Rest.{paletteIn, rowLengths, RowFits}
 use Rattle.shapes.proofs.Putting.{put-as}
