@@ -1,5 +1,5 @@
-// The placing on a scene that is lent in bytes, decoded into local arrays, slice by slice. Of a slice of more than its array
-// holds the start is decoded.
+// The placing on a scene that is lent in bytes: decoded into local arrays, slice by slice. Of a slice of more than its
+// array holds the start is decoded.
 use lent_bytes::FLOATS;
 use lent_bytes::MARKS;
 use lent_bytes::SLOTS;
