@@ -22,7 +22,7 @@ use Rattle.model.specs.Agree.{Each}
 use Rattle.model.proofs.RowLaws.{Rows}
 use Rattle.model.proofs.Rowwise.{row-count, rows-in, rows-over, over-again}
 use Rattle.vertex_rows.proofs.RowLengths.{point-length, normal-length, tangent-length, optional-length}
-use Rattle.transform.proofs.Handed.{tangent-by}
+use Rattle.vertex_rows.proofs.Turned.{tangent-by}
 
 -- ---- which of the two placings
 module _ (world : Matrix) (p : Primitive) (palette : List Matrix) (js : List (List ℕ)) (ws : List Vector) where

@@ -19,8 +19,9 @@ use Rattle.vertex_rows.specs.Rows.{flipped, rowChanged}
 use Rattle.transform.specs.Blocks.{xyzTurned, begun, unitOver, rowsFrom, Packed}
 use Rattle.skinning.specs.Holding.{zeros, directionBy, handed}
 use Rattle.vertex_rows.proofs.RowSteps.{row-kept}
+use Rattle.vertex_rows.proofs.RowLengths.{flipped-length}
 use Rattle.transform.proofs.Blocked.{from-lent, from-alike}
-use Rattle.transform.proofs.Handed.{three, flipped-length, by-four}
+use Rattle.transform.proofs.Handed.{three, by-four}
 use Rattle.skinning.proofs.Composed.{from-twice, from-absent}
 
 -- ---- lengths of rows

@@ -1,7 +1,7 @@
 -- Vertices that are moved by a matrix, in slices. Assumes nothing.
 use mathlib.Core.Path.{_≡_, refl, sym, ap, subst, _∙_}
-use mathlib.Core.Bool.{Bool, true, false}
-use mathlib.Core.Option.{Option, none, some}
+use mathlib.Core.Bool.{Bool}
+use mathlib.Core.Option.{Option, none}
 use mathlib.Core.List.{List}
 use Prim.Native.Nat.{ℕ, zero, suc, _+_, _-_, _*_, _/_, _≤_, _<_}
 use native.Mathlib.Nat.{div-mul-le-self}
@@ -17,48 +17,17 @@ use Rattle.model.specs.Matrix.{Matrix, linear, determinant, inverseTranspose}
 use Rattle.model.specs.Vertices.{byMatrix, affinePoint, turnedNormal, turnedTangent, jointMatrix, skinned}
 use Rattle.model.specs.Attributes.{attributesIn, overRows, Reshaped}
 use Rattle.model.proofs.Rowwise.{row-count, row-length}
-use Rattle.scene.specs.Values.{linearOf}
-use Rattle.scene.specs.declared.Linear.{Linear}
-use Rattle.vertex_rows.specs.declared.influences.Blend.{Blend}
 use Rattle.vertex_rows.specs.Rows.{tangentBy, rowChanged, firstRows}
-use Rattle.vertex_rows.specs.Blending.{blended}
+use Rattle.vertex_rows.specs.Blending.{Skinned}
 use Rattle.transform.specs.Blocks.{rowsFrom}
-use Rattle.skinning.specs.Moved.{Turned, Skinned, MovedFrom, FirstMoved}
-use Rattle.vertex_rows.proofs.RowSteps.{row-kept, rows-done}
+use Rattle.skinning.specs.Moved.{MovedFrom, FirstMoved}
+use Rattle.vertex_rows.proofs.RowSteps.{rows-done}
 use Rattle.vertex_rows.proofs.RowLengths.{normal-length, tangent-length, optional-length}
 use Rattle.transform.proofs.Blocked.{rows-joined, next-from, next-block}
-use Rattle.transform.proofs.Handed.{tangent-by}
 
 pub turned-length : (m : Matrix) (v : Vector) → length v ≡ 4 → length (turnedTangent m v) ≡ 4
 unfolding tangentBy turnedTangent
 turned-length m v h = tangent-length (linear m) (lt (determinant m) zero32) v h
-
-pub turned-by : (m : Matrix) (v : ℕ) (normals n tangents t : List Float) (l : Linear) (k : List Float) (d : Float) → linearOf l ≡ inverseTranspose m → k ≡ linear m → d ≡ determinant m
-    → n ≡ rowChanged 3 (turnedNormal (linearOf l)) v normals → t ≡ rowChanged 4 (tangentBy k (lt d zero32)) v tangents → Turned m v normals n tangents t
-turned-by m v normals n tangents t l k d i p q e f = record {
-  normals = e ∙ ap (λ (o : Option (List Float)). rowChanged 3 (turnedNormal o) v normals) i;
-  tangents = f ∙ ap (λ (g : Vector → Vector). rowChanged 4 g v tangents) (tangent-by m k d p q);
-}
-
--- ---- one vertex
-module _ (b : Blend) (v : ℕ) (lp ln lt : List Float) where
-  pub by-joints : (p n t : List Float) → b .any ≡ true → p ≡ rowChanged 3 (affinePoint (b .matrix .m)) v lp → Turned (b .matrix .m) v ln n lt t → Skinned (blended b) v lp p ln n lt t
-  by-joints p n t a e d =
-      let o : some (b .matrix .m) ≡ blended b = sym (ap (λ (x : Bool). pick x (some (b .matrix .m)) none) a) in
-      record {
-        positions = e ∙ ap (λ (x : Option Matrix). rowChanged 3 (byMatrix affinePoint x) v lp) o;
-        normals = d .normals ∙ ap (λ (x : Option Matrix). rowChanged 3 (byMatrix (λ m y. turnedNormal (inverseTranspose m) y) x) v ln) o;
-        tangents = d .tangents ∙ ap (λ (x : Option Matrix). rowChanged 4 (byMatrix turnedTangent x) v lt) o;
-      }
-
-  pub by-none : b .any ≡ false → Skinned (blended b) v lp lp ln ln lt lt
-  by-none a =
-      let o : none ≡ blended b = sym (ap (λ (x : Bool). pick x (some (b .matrix .m)) none) a) in
-      record {
-        positions = row-kept 3 v lp ∙ ap (λ (x : Option Matrix). rowChanged 3 (byMatrix affinePoint x) v lp) o;
-        normals = row-kept 3 v ln ∙ ap (λ (x : Option Matrix). rowChanged 3 (byMatrix (λ m y. turnedNormal (inverseTranspose m) y) x) v ln) o;
-        tangents = row-kept 4 v lt ∙ ap (λ (x : Option Matrix). rowChanged 4 (byMatrix turnedTangent x) v lt) o;
-      }
 
 -- ---- all vertices
 -- the first n rows by two rules that agree on them

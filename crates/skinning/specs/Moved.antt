@@ -1,25 +1,13 @@
 -- Vertices that are moved by the matrices of their joints. Definitions only.
 use mathlib.Core.Path.{_≡_}
-use mathlib.Core.Option.{Option}
 use mathlib.Core.List.{List}
 use Prim.Native.Nat.{ℕ, _+_}
 use lib.Ieee.{Float}
 use Rattle.model.specs.Vector.{Vector}
 use Rattle.model.specs.Matrix.{Matrix, inverseTranspose}
 use Rattle.model.specs.Vertices.{jointMatrix, byMatrix, affinePoint, turnedNormal, turnedTangent}
-use Rattle.vertex_rows.specs.Rows.{rowChanged, firstRows}
+use Rattle.vertex_rows.specs.Rows.{firstRows}
 use Rattle.transform.specs.Blocks.{rowsFrom}
-
--- normal and tangent v after a vertex is turned by a matrix
-pub record Turned (m : Matrix) (v : ℕ) (lentNormals leftNormals lentTangents leftTangents : List Float) : Type 0 where
-  pub normals : leftNormals ≡ rowChanged 3 (turnedNormal (inverseTranspose m)) v lentNormals
-  pub tangents : leftTangents ≡ rowChanged 4 (turnedTangent m) v lentTangents
-
--- vertex v after it is moved by its matrix, if it has one
-pub record Skinned (o : Option Matrix) (v : ℕ) (lentPositions leftPositions lentNormals leftNormals lentTangents leftTangents : List Float) : Type 0 where
-  pub positions : leftPositions ≡ rowChanged 3 (byMatrix affinePoint o) v lentPositions
-  pub normals : leftNormals ≡ rowChanged 3 (byMatrix (λ m y. turnedNormal (inverseTranspose m) y) o) v lentNormals
-  pub tangents : leftTangents ≡ rowChanged 4 (byMatrix turnedTangent o) v lentTangents
 
 -- n vertices from vertex k on after they are moved by the matrices of their joints
 pub record MovedFrom (palette : List Matrix) (joints : List (List ℕ)) (weights : List Vector) (k n : ℕ) (lentPositions leftPositions lentNormals leftNormals lentTangents leftTangents : List Float) : Type 0 where

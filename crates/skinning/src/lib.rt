@@ -2,12 +2,8 @@
 // `Primitive::skinned`. Three floats a position or a normal, four a tangent; floats past the last whole row stay as
 // they are.
 use crate::holding::skin_block;
-use scene::Mat4;
-use vertex_rows::Blend;
 use vertex_rows::joint_matrix;
-use vertex_rows::move_position;
-use vertex_rows::turn_normal;
-use vertex_rows::turn_tangent;
+use vertex_rows::skin_vertex;
 ghost use mathlib.Core.Path.{_≡_};
 ghost use mathlib.Core.Bool.{false};
 ghost use Prim.Native.Nat.{_+_, _*_, _/_, _≤_, _<_};
@@ -15,34 +11,9 @@ ghost use lib.ListN.{length};
 ghost use Rattle.model.specs.Lists.{rowsIn};
 ghost use Rattle.model.specs.Vertices.{skinned};
 ghost use Rattle.model.specs.Attributes.{attributesIn, Reshaped};
-ghost use Rattle.vertex_rows.specs.Blending.{blended};
-ghost use Rattle.skinning.specs.Moved.{Turned, Skinned, MovedFrom, FirstMoved};
+ghost use Rattle.skinning.specs.Moved.{MovedFrom, FirstMoved};
 
 mod holding;
-
-// Turns normal and tangent v, if there are any.
-fn skin_directions(m: Mat4, normals: &mut [f32], tangents: &mut [f32], v: usize)
-    ensures { λ _. ⌜ Turned (m .m) v (now (normals .entry)) (now (normals .exit)) (now (tangents .entry)) (now (tangents .exit)) ⌝ }
-{
-    turn_normal(inverse::linear_inverse_transpose(m), normals, v);
-    turn_tangent(
-        scene::linear_part(m),
-        scene::linear_det(m) < 0.0,
-        tangents,
-        v,
-    );
-}
-
-// Vertex v by its joint matrix.
-fn skin_vertex(b: Blend, positions: &mut [f32], normals: &mut [f32], tangents: &mut [f32], v: usize)
-    ensures { λ _. ⌜ Skinned (blended b) v (now (positions .entry)) (now (positions .exit)) (now (normals .entry)) (now (normals .exit)) (now (tangents .entry)) (now (tangents .exit)) ⌝ }
-{
-    if b.any {
-        let m = b.matrix;
-        move_position(m, positions, v);
-        skin_directions(m, normals, tangents, v);
-    }
-}
 
 // n vertices from vertex k on, one by one.
 fn skin_each(

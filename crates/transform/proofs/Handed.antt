@@ -4,14 +4,12 @@ use mathlib.Core.Bool.{Bool, true, false, not}
 use mathlib.Core.List.{List, [], _∷_, _++_, map, append-nil}
 use Prim.Native.Nat.{ℕ, _+_, _/_}
 use native.Mathlib.Omega.{arith}
-use lib.Ieee.{Float, nan, neg, lt}
-use lib.ListN.{length, getD, take, drop, length-append, length-take}
+use lib.Ieee.{Float, nan, neg}
+use lib.ListN.{length, getD, drop}
 use lib.Seq.{take-all, take-at, drop-length, getD-append-seam}
-use Rattle.float.specs.F32.{zero32}
 use Rattle.model.specs.Lists.{tabulate, row, rowsIn}
-use Rattle.model.specs.Vector.{Vector, at}
-use Rattle.model.specs.Matrix.{Matrix, linear, determinant}
-use Rattle.model.specs.Vertices.{turnedUnit, turnedNormal, turnedTangent}
+use Rattle.model.specs.Vector.{Vector}
+use Rattle.model.specs.Vertices.{turnedUnit, turnedNormal}
 use Rattle.model.specs.Attributes.{overRows}
 use Rattle.model.proofs.ListLaws.{length-tabulate}
 use Rattle.model.proofs.RowLaws.{Rows}
@@ -68,10 +66,6 @@ four-flipped m x y z h =
     let e : getD (u ++ (h ∷ [])) 3 nan ≡ h = ap (λ (k : ℕ). getD (u ++ (h ∷ [])) k nan) (sym n) ∙ getD-append-seam u h [] nan in
     (λ j. take-at u (h ∷ []) 3 n j ++ (neg (e j) ∷ []))
 
-pub flipped-length : (v : Vector) → length v ≡ 4 → length (flipped v) ≡ 4
-unfolding flipped
-flipped-length v h = omega (arith, length-append (take 3 v) (neg (at v 3) ∷ []), length-take 3 v)
-
 pub by-four : (P : Vector → Type 0) → ((x y z h : Float) → P (x ∷ y ∷ z ∷ h ∷ [])) → (v : Vector) → length v ≡ 4 → P v
 by-four P k [] e = absurd (omega arith)
 by-four P k (x ∷ []) e = absurd (omega arith)
@@ -113,8 +107,3 @@ module _ (n : Linear) (lent : List Float) where
 
   pub normals-left : n ≡ linear.None → lent ≡ overRows 3 (map (turnedNormal (linearOf n)) (rowsIn 3 lent)) lent
   normals-left e = each-kept 3 lent ∙ sym (ap (λ (x : Linear). overRows 3 (map (turnedNormal (linearOf x)) (rowsIn 3 lent)) lent) e)
-
--- tangents by the linear part l of m and its determinant d
-pub tangent-by : (m : Matrix) (l : List Float) (d : Float) → l ≡ linear m → d ≡ determinant m → tangentBy l (lt d zero32) ≡ turnedTangent m
-unfolding tangentBy turnedTangent
-tangent-by m l d p q = (λ j v. tangentBy (p j) (lt (q j) zero32) v)

@@ -2,7 +2,7 @@ use crate::blocks::turn_rows;
 use scene::Linear;
 use scene::Mat3;
 use scene::Mat4;
-use vertex_rows::flip_tangent;
+use vertex_rows::flip_tangents;
 use vertex_rows::transform_positions;
 ghost use mathlib.Core.Path.{_≡_};
 ghost use mathlib.Core.List.{map};
@@ -10,7 +10,7 @@ ghost use Rattle.model.specs.Lists.{rowsIn};
 ghost use Rattle.model.specs.Vertices.{turnedNormal, transformed};
 ghost use Rattle.model.specs.Attributes.{attributesIn, overRows, Reshaped};
 ghost use Rattle.scene.specs.Values.{mat3, linearOf};
-ghost use Rattle.vertex_rows.specs.Rows.{tangentBy, flipped};
+ghost use Rattle.vertex_rows.specs.Rows.{tangentBy};
 ghost use Rattle.transform.specs.Rigid.{TurnedAll};
 
 // Turns all normals by the normal matrix, if there is one.
@@ -20,17 +20,6 @@ fn transform_normals(n: Linear, normals: &mut [f32])
     match n {
         Linear::Of(l) => turn_rows(l, 3, normals),
         Linear::None => {}
-    }
-}
-
-fn flip_tangents(tangents: &mut [f32])
-    ensures { λ _. ⌜ now (tangents .exit) ≡ overRows 4 (map flipped (rowsIn 4 (now (tangents .entry)))) (now (tangents .entry)) ⌝ }
-{
-    let n = tangents.len() / 4;
-    let mut k = 0usize;
-    while k < n {
-        flip_tangent(tangents, k);
-        k += 1;
     }
 }
 

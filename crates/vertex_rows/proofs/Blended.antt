@@ -1,4 +1,4 @@
--- The influences of a vertex, added up one by one. Assumes nothing.
+-- The influences of a vertex, added up one by one, and the vertex that is moved by them. Assumes nothing.
 use mathlib.Core.Path.{_≡_, refl, sym, ap, subst, _∙_}
 use mathlib.Core.Bool.{Bool, true, false, _&&_}
 use mathlib.Core.Option.{Option, none, some}
@@ -13,12 +13,14 @@ use lib.Seq.{getD-take, getD-drop, take-all}
 use Rattle.float.specs.F32.{zero32}
 use Rattle.model.specs.Lists.{pick, foldl, isSome, andThen, row, rowsIn}
 use Rattle.model.specs.Vector.{Vector, _⊙_, _⊞_}
-use Rattle.model.specs.Matrix.{Matrix}
-use Rattle.model.specs.Vertices.{Influence, counted, influences, mixture, jointMatrix}
+use Rattle.model.specs.Matrix.{Matrix, inverseTranspose}
+use Rattle.model.specs.Vertices.{Influence, counted, influences, mixture, jointMatrix, byMatrix, affinePoint, turnedNormal, turnedTangent}
 use Rattle.model.proofs.ListLaws.{entry-there, entry-past}
 use Rattle.model.proofs.Rowwise.{rows-of, row-length}
 use Rattle.vertex_rows.specs.declared.influences.Blend.{Blend}
-use Rattle.vertex_rows.specs.Blending.{blended, Blends, Added}
+use Rattle.vertex_rows.specs.Rows.{rowChanged}
+use Rattle.vertex_rows.specs.Blending.{blended, Blends, Added, Turned, Skinned}
+use Rattle.vertex_rows.proofs.RowSteps.{row-kept}
 
 -- ---- rows that are there, and rows that are not
 module _ {A : Type 0} (w : ℕ) (l : List A) (i : ℕ) where
@@ -139,3 +141,23 @@ module _ (p : List Matrix) (joints : List ℕ) (weights : List Float) (v : ℕ) 
 
   pub no-weights : v < length joints / 4 → length weights / 4 ≤ v → none ≡ jointMatrix p (rowsIn 4 joints) (rowsIn 4 weights) v
   no-weights h g = sym (λ x. andThen (row-there 4 joints v h x) (λ js. andThen (row-past 4 weights v g x) (λ ws. mixture (influences p js ws))))
+
+-- ---- the vertex that is moved by them
+module _ (b : Blend) (v : ℕ) (lp ln lt : List Float) where
+  pub by-joints : (p n t : List Float) → b .any ≡ true → p ≡ rowChanged 3 (affinePoint (b .matrix .m)) v lp → Turned (b .matrix .m) v ln n lt t → Skinned (blended b) v lp p ln n lt t
+  by-joints p n t a e d =
+      let o : some (b .matrix .m) ≡ blended b = sym (ap (λ (x : Bool). pick x (some (b .matrix .m)) none) a) in
+      record {
+        positions = e ∙ ap (λ (x : Option Matrix). rowChanged 3 (byMatrix affinePoint x) v lp) o;
+        normals = d .normals ∙ ap (λ (x : Option Matrix). rowChanged 3 (byMatrix (λ m y. turnedNormal (inverseTranspose m) y) x) v ln) o;
+        tangents = d .tangents ∙ ap (λ (x : Option Matrix). rowChanged 4 (byMatrix turnedTangent x) v lt) o;
+      }
+
+  pub by-none : b .any ≡ false → Skinned (blended b) v lp lp ln ln lt lt
+  by-none a =
+      let o : none ≡ blended b = sym (ap (λ (x : Bool). pick x (some (b .matrix .m)) none) a) in
+      record {
+        positions = row-kept 3 v lp ∙ ap (λ (x : Option Matrix). rowChanged 3 (byMatrix affinePoint x) v lp) o;
+        normals = row-kept 3 v ln ∙ ap (λ (x : Option Matrix). rowChanged 3 (byMatrix (λ m y. turnedNormal (inverseTranspose m) y) x) v ln) o;
+        tangents = row-kept 4 v lt ∙ ap (λ (x : Option Matrix). rowChanged 4 (byMatrix turnedTangent x) v lt) o;
+      }

@@ -13,7 +13,7 @@ use Rattle.model.specs.Lists.{pick, orElse}
 use Rattle.model.specs.Vector.{Vector, at, over, norm, normalized}
 use Rattle.model.specs.Matrix.{Matrix, turned, moved}
 use Rattle.model.specs.Vertices.{turnedUnit, turnedNormal, divided, transformedPoint, byMatrix}
-use Rattle.vertex_rows.specs.Rows.{tangentBy}
+use Rattle.vertex_rows.specs.Rows.{tangentBy, flipped}
 
 pub point-length : (m : Matrix) (p : Vector) → length (transformedPoint m p) ≡ 3
 unfolding transformedPoint divided
@@ -40,6 +40,10 @@ unfolding tangentBy
 tangent-length l mirror v h =
     let t : length (take 3 v) ≡ 3 = omega (arith, length-take 3 v) in
     omega (arith, length-append (turnedUnit l (take 3 v)) (pick mirror (neg (at v 3)) (at v 3) ∷ []), unit-length l (take 3 v) t)
+
+pub flipped-length : (v : Vector) → length v ≡ 4 → length (flipped v) ≡ 4
+unfolding flipped
+flipped-length v h = omega (arith, length-append (take 3 v) (neg (at v 3) ∷ []), length-take 3 v)
 
 -- by a matrix, if there is one
 pub optional-length : (n : ℕ) (f : Matrix → Vector → Vector) (o : Option Matrix) (v : Vector) → ((m : Matrix) → length (f m v) ≡ n) → length v ≡ n → length (byMatrix f o v) ≡ n

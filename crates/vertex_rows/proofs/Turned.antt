@@ -4,12 +4,14 @@ use mathlib.Core.Option.{Option}
 use mathlib.Core.Bool.{Bool, true, false}
 use mathlib.Core.List.{List, [], _∷_, _++_}
 use Prim.Native.Nat.{ℕ}
-use lib.Ieee.{Float, neg}
+use lib.Ieee.{Float, neg, lt}
+use Rattle.float.specs.F32.{zero32}
 use Rattle.model.specs.Lists.{pick, orElse}
 use Rattle.model.specs.Vector.{Vector, normalized}
-use Rattle.model.specs.Matrix.{turned}
-use Rattle.model.specs.Vertices.{turnedUnit, turnedNormal}
+use Rattle.model.specs.Matrix.{Matrix, linear, turned, determinant, inverseTranspose}
+use Rattle.model.specs.Vertices.{turnedUnit, turnedNormal, turnedTangent}
 use Rattle.vertex_rows.specs.Rows.{tangentBy, rowChanged}
+use Rattle.vertex_rows.specs.Blending.{Turned}
 use Rattle.vertex_rows.proofs.RowSteps.{row-kept}
 use Rattle.scene.specs.Values.{vec3, mat3, unitOf, linearOf}
 use Rattle.scene.specs.declared.Vec3.{Vec3}
@@ -48,3 +50,15 @@ module _ (l : List Float) (mirror : Bool) (x y z h : Float) (u : Vector) (turns 
   pub stays : mirror ≡ false → u ++ (h ∷ []) ≡ tangentBy l mirror (x ∷ y ∷ z ∷ h ∷ [])
   unfolding tangentBy
   stays e = (λ j. turns j ++ (pick (sym e j) (neg h) h ∷ []))
+
+-- tangents by the linear part l of m and its determinant d
+pub tangent-by : (m : Matrix) (l : List Float) (d : Float) → l ≡ linear m → d ≡ determinant m → tangentBy l (lt d zero32) ≡ turnedTangent m
+unfolding tangentBy turnedTangent
+tangent-by m l d p q = (λ j v. tangentBy (p j) (lt (q j) zero32) v)
+
+pub turned-by : (m : Matrix) (v : ℕ) (normals n tangents t : List Float) (l : Linear) (k : List Float) (d : Float) → linearOf l ≡ inverseTranspose m → k ≡ linear m → d ≡ determinant m
+    → n ≡ rowChanged 3 (turnedNormal (linearOf l)) v normals → t ≡ rowChanged 4 (tangentBy k (lt d zero32)) v tangents → Turned m v normals n tangents t
+turned-by m v normals n tangents t l k d i p q e f = record {
+  normals = e ∙ ap (λ (o : Option (List Float)). rowChanged 3 (turnedNormal o) v normals) i;
+  tangents = f ∙ ap (λ (g : Vector → Vector). rowChanged 4 g v tangents) (tangent-by m k d p q);
+}

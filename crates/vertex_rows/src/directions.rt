@@ -8,7 +8,10 @@ use scene::Linear;
 use scene::Mat3;
 use scene::Vec3;
 ghost use mathlib.Core.Path.{_≡_};
+ghost use mathlib.Core.List.{map};
+ghost use Rattle.model.specs.Lists.{rowsIn};
 ghost use Rattle.model.specs.Vertices.{turnedUnit, turnedNormal};
+ghost use Rattle.model.specs.Attributes.{overRows};
 ghost use Rattle.scene.specs.Values.{vec3, mat3, linearOf};
 ghost use Rattle.vertex_rows.specs.Rows.{tangent, tangentBy, flipped, rowChanged};
 
@@ -51,7 +54,7 @@ fn turn_unit(l: Mat3, normals: &mut [f32], k: usize)
 }
 
 // Turns normal k by the normal matrix, if there are both.
-pub fn turn_normal(n: Linear, normals: &mut [f32], k: usize)
+pub(crate) fn turn_normal(n: Linear, normals: &mut [f32], k: usize)
     ensures { λ _. ⌜ now (normals .exit) ≡ rowChanged 3 (turnedNormal (linearOf n)) k (now (normals .entry)) ⌝ }
 {
     match n {
@@ -61,7 +64,7 @@ pub fn turn_normal(n: Linear, normals: &mut [f32], k: usize)
 }
 
 // Turns tangent k, if there is one.
-pub fn turn_tangent(l: Mat3, mirror: bool, tangents: &mut [f32], k: usize)
+pub(crate) fn turn_tangent(l: Mat3, mirror: bool, tangents: &mut [f32], k: usize)
     ensures { λ _. ⌜ now (tangents .exit) ≡ rowChanged 4 (tangentBy (mat3 l) mirror) k (now (tangents .entry)) ⌝ }
 {
     if k < tangents.len() / 4 {
@@ -87,5 +90,16 @@ pub fn flip_tangent(tangents: &mut [f32], k: usize)
     if k < tangents.len() / 4 {
         let t = load4(tangents, k * 4);
         store4(tangents, k * 4, flip(t));
+    }
+}
+
+pub fn flip_tangents(tangents: &mut [f32])
+    ensures { λ _. ⌜ now (tangents .exit) ≡ overRows 4 (map flipped (rowsIn 4 (now (tangents .entry)))) (now (tangents .entry)) ⌝ }
+{
+    let n = tangents.len() / 4;
+    let mut k = 0usize;
+    while k < n {
+        flip_tangent(tangents, k);
+        k += 1;
     }
 }

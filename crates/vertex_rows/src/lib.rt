@@ -4,13 +4,14 @@ mod directions;
 mod influences;
 mod positions;
 mod rows;
+mod vertices;
 
 pub use directions::flip_tangent;
-pub use directions::turn_normal;
-pub use directions::turn_tangent;
+pub use directions::flip_tangents;
 pub use influences::Blend;
 pub use influences::joint_matrix;
 pub use positions::move_position;
 pub use positions::transform_positions;
 pub use rows::load3;
 pub use rows::store3;
+pub use vertices::skin_vertex;

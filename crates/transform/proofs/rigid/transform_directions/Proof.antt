@@ -6,7 +6,7 @@ use Rattle.model.specs.Lists.{rowsIn}
 use Rattle.model.specs.Vector.{Vector}
 use Rattle.model.specs.Vertices.{turnedNormal}
 use Rattle.model.specs.Attributes.{overRows}
-use Rattle.transform.proofs.Handed.{tangent-by}
+use Rattle.vertex_rows.proofs.Turned.{tangent-by}
 use borrow.Author.Needs.{needs}
 use Rattle.transform.proofs.rigid.transform_directions.Statement.{statement}
 use Rattle.transform.proofs.rigid.transform_directions.Tie as tie

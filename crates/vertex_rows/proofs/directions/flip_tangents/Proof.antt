@@ -1,4 +1,4 @@
--- `transform::rigid::flip_tangents` meets its contract. Assumes nothing.
+-- `vertex_rows::directions::flip_tangents` meets its contract. Assumes nothing.
 use mathlib.Core.Path.{_≡_, refl, ap, _∙_}
 use Prim.Native.Nat.{_-_, _/_, _≤_}
 use native.Mathlib.Omega.{arith}
@@ -7,11 +7,11 @@ use denote.Ref.{now}
 use lib.ListN.{length}
 use Rattle.model.specs.Lists.{row}
 use Rattle.model.proofs.Rowwise.{row-length}
 use Rattle.vertex_rows.specs.Rows.{flipped, firstRows}
-use Rattle.transform.proofs.Handed.{flipped-length}
+use Rattle.vertex_rows.proofs.RowLengths.{flipped-length}
 use Rattle.vertex_rows.proofs.RowSteps.{next-done, each-done}
-use Rattle.transform.proofs.rigid.flip_tangents.Statement.{statement}
-use Rattle.transform.proofs.rigid.flip_tangents.Tie as tie
+use Rattle.vertex_rows.proofs.directions.flip_tangents.Statement.{statement}
+use Rattle.vertex_rows.proofs.directions.flip_tangents.Tie as tie
 
 abbrev Inv-loop : tie.InvT-loop
 Inv-loop tangents₀ n k₀ tangents k = (k ≤ n) × (n ≡ length tangents₀ / 4) × (length tangents ≡ length tangents₀) × (tangents ≡ firstRows 4 (λ _. flipped) tangents₀ k)

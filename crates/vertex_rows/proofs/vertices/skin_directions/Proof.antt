@@ -1,8 +1,8 @@
--- `skinning::skin_directions` meets its contract. Assumes nothing.
+-- `vertex_rows::vertices::skin_directions` meets its contract. Assumes nothing.
 use borrow.Author.Needs.{needs}
-use Rattle.skinning.proofs.Moved.{turned-by}
-use Rattle.skinning.proofs.skin_directions.Statement.{statement}
-use Rattle.skinning.proofs.skin_directions.Tie as tie
+use Rattle.vertex_rows.proofs.Turned.{turned-by}
+use Rattle.vertex_rows.proofs.vertices.skin_directions.Statement.{statement}
+use Rattle.vertex_rows.proofs.vertices.skin_directions.Tie as tie
 
 returns : tie.Need-returns
 returns c = search (needs, turned-by)

@@ -1,9 +1,9 @@
--- `skinning::skin_vertex` meets its contract. Assumes nothing.
+-- `vertex_rows::vertices::skin_vertex` meets its contract. Assumes nothing.
 use denote.Ref.{now}
-use Rattle.skinning.proofs.Moved.{by-joints, by-none}
+use Rattle.vertex_rows.proofs.Blended.{by-joints, by-none}
 use borrow.Author.Needs.{needs}
-use Rattle.skinning.proofs.skin_vertex.Statement.{statement}
-use Rattle.skinning.proofs.skin_vertex.Tie as tie
+use Rattle.vertex_rows.proofs.vertices.skin_vertex.Statement.{statement}
+use Rattle.vertex_rows.proofs.vertices.skin_vertex.Tie as tie
 
 returns : tie.Need-returns
 returns c =
