@@ -30,6 +30,7 @@ fn when_left(number: u32, n: usize) -> usize
     0
 }
 
+// How much a bake has changed of a scratch room for so many nodes and words of walk room, and how much it has put out.
 pub fn amounts_of(a: Answer, nodes: usize, steps: usize) -> Amounts
     requires { ⌜ whenLeft (a .number) nodes ≤ 1024 ⌝ }
     ensures { λ r. ⌜ r ≡ amountsOf a nodes steps ⌝ }

@@ -56,6 +56,7 @@ pub fn pose_at(marks: &[u32], slots: &[f32], i: usize) -> NodePose
     at_rest()
 }
 
+// A pose in which nothing is posed.
 pub fn at_rest() -> NodePose
     ensures { λ r. ⌜ (poseOf r ≡ atRest) × (vec3 (r .translation) ≡ replicate 3 zero32) × (quat (r .rotation) ≡ replicate 4 zero32) × (vec3 (r .scale) ≡ replicate 3 zero32) ⌝ }
 {

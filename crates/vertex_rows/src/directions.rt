@@ -93,6 +93,7 @@ pub fn flip_tangent(tangents: &mut [f32], k: usize)
     }
 }
 
+// Flips the handedness of every tangent.
 pub fn flip_tangents(tangents: &mut [f32])
     ensures { λ _. ⌜ now (tangents .exit) ≡ overRows 4 (map flipped (rowsIn 4 (now (tangents .entry)))) (now (tangents .entry)) ⌝ }
 {
