@@ -36,7 +36,17 @@ mod tables;
 mod tally;
 mod vertices;
 
-use std::{env, io, process::ExitCode};
+use std::{
+    collections::VecDeque,
+    env, io,
+    num::NonZero,
+    process::ExitCode,
+    sync::{
+        atomic::{AtomicBool, Ordering},
+        Mutex,
+    },
+    thread,
+};
 
 /// A name, and comparisons that give false where something differs.
 type Area = (&'static str, fn() -> bool);
@@ -70,6 +80,9 @@ const SPEEDS: [(&str, fn()); 10] = [
     ("skins", skins::speed::measure),
     ("bakes", bakes::speed::measure),
 ];
+
+/// The stack of a thread that compares: the calls on bytes take up to 2 MB.
+const STACK: usize = 16 << 20;
 
 fn main() -> io::Result<ExitCode> {
     let arguments: Vec<String> = env::args().skip(1).collect();
@@ -105,18 +118,34 @@ fn status(equal: bool) -> ExitCode {
     }
 }
 
-/// Of all areas, or of the one that is named. Stops after the first that differs.
+/// Of all areas, or of the one that is named: as many at a time as there are
+/// processors, the last of the list, which takes longest, first. None is begun
+/// after one that differs.
 fn gate(area: &str) -> bool {
-    let mut areas = AREAS
+    let areas = AREAS
         .iter()
+        .rev()
         .filter(|(name, _)| area.is_empty() || *name == area);
-    areas.all(|(name, compare)| {
-        let equal = compare();
-        if !equal {
-            eprintln!("{name}: something differs");
+    let areas: Mutex<VecDeque<&Area>> = Mutex::new(areas.collect());
+    let equal = AtomicBool::new(true);
+    let next = || areas.lock().expect("the areas").pop_front();
+    let compare = || {
+        while let Some((name, compare)) = next() {
+            if !compare() {
+                eprintln!("{name}: something differs");
+                equal.store(false, Ordering::Relaxed);
+                areas.lock().expect("the areas").clear();
+            }
         }
-        equal
-    })
+    };
+    let lanes = thread::available_parallelism().map_or(1, NonZero::get);
+    thread::scope(|scope| {
+        for _ in 0..lanes {
+            let lane = thread::Builder::new().stack_size(STACK);
+            lane.spawn_scoped(scope, compare).expect("a thread");
+        }
+    });
+    equal.into_inner()
 }
 
 fn speed(area: &str) {

@@ -35,13 +35,13 @@ impl<Input: Ord> Tally<Input> {
         }
     }
 
-    /// Prints the line of this comparison; true if nothing differs.
+    /// Prints the line of this comparison, at once, since others print beside
+    /// it; true if nothing differs.
     pub fn report(&self, name: &str, unit: &str, note: &str) -> bool {
         let (cases, differing) = (self.cases, self.differing);
-        println!("{name}: {cases} {unit}, {differing} differ{note}");
-        if let Some((_, told)) = &self.smallest {
-            println!("  smallest: {told}");
-        }
+        let smallest = self.smallest.as_ref();
+        let smallest = smallest.map_or(String::new(), |(_, told)| format!("\n  smallest: {told}"));
+        println!("{name}: {cases} {unit}, {differing} differ{note}{smallest}");
         differing == 0
     }
 }
