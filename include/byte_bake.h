@@ -7,9 +7,10 @@
 #include "bake_entries.h"
 
 /* As `bake_floats`, on little-endian bytes: `time` is the bit pattern of a float, a NaN is written as 7fc00000, and bytes
-   past the last whole word of a slice are not counted. A scene of more than 32,768 words, or 65,536 floats in a slice, draws
-   2. Of pose and world slots 1,024 are used, of the walk room 18,432 words, and of each output 65,536 floats. What these
-   held at entry is not read, and what is not written is as lent. The call takes about 2 MB of stack. */
+   past the last whole word of a slice are not counted. A scene of more than 32,768 words, or 65,536 floats in a slice, draws 1
+   where a table that the header names leaves the words, otherwise 2. Of pose and world slots 1,024 are used, of the walk
+   room 18,432 words, and of each output 65,536 floats. What these held at entry is not read, and what is not written is as
+   lent. The call takes about 2 MB of stack. */
 BakeAnswer bake(const uint8_t *words, size_t words_len, const uint8_t *floats, size_t floats_len,
                 const uint8_t *node_weights, size_t node_weights_len, const uint8_t *mesh_weights,
                 size_t mesh_weights_len, Header header, uint32_t node, uint32_t time, uint8_t *marks, size_t marks_len,

@@ -124,8 +124,8 @@ Answer place_floats(const uint32_t *words, size_t words_len, const float *floats
                     size_t worlds_len);
 
 /* The same on little-endian bytes: a NaN is written as 7fc00000, and bytes past the last whole word of a slice are not
-   counted. A scene of more than 32,768 words, or 65,536 floats in a slice, draws 2. Of pose and world slots 1,024 are used,
-   and of the walk room 18,432 words. */
+   counted. A scene of more than 32,768 words, or 65,536 floats in a slice, draws 1 where a table that the header names leaves
+   the words, otherwise 2. Of pose and world slots 1,024 are used, and of the walk room 18,432 words. */
 Answer place(const uint8_t *words, size_t words_len, const uint8_t *floats, size_t floats_len,
              const uint8_t *node_weights, size_t node_weights_len, const uint8_t *mesh_weights, size_t mesh_weights_len,
              Header header, const uint8_t *marks, size_t marks_len, const uint8_t *slots, size_t slots_len, uint8_t *walk,

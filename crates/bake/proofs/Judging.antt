@@ -17,7 +17,7 @@ use Rattle.model.specs.Refusals.{lowest, earlyNumber}
 use Rattle.model.specs.Bake as model
 use Rattle.tables.specs.Decoded.{Lent, sceneOf}
 use Rattle.checks.specs.Drawn.{tablesNumber}
-use Rattle.bake_stages.specs.Late.{lateNumber}
+use Rattle.bake_stages.specs.Numbers.{lateNumber}
 use Rattle.bake_stages.specs.Scratch.{Slices, roomOf, scratchLeft}
 use Rattle.bake.specs.declared.Answer.{Answer}
 use Rattle.bake.specs.Baked.{Room, requestOf, outcome, answerOf, roomAfter, Baked}
@@ -96,7 +96,7 @@ module _ (l : Lent) (i : ℕ) (time : Float) (lent : Room) where
   refusal n = record { number = n; positions = 0; normals = 0; tangents = 0; taken = 0 }
 
   refused-as : (n : ℕ) (b : Bool) → outcome l i time lent ≡ model.refused n → isSome (model.leftBy (tablesNumber l) scene (requestOf i time lent)) ≡ b
-      → Baked l i time lent (record { scratch = pick b (scratchLeft l time (lent .scratch)) (lent .scratch); output = lent .output }) (refusal n)
+      → Baked l i time (record { from = lent; to = record { scratch = pick b (scratchLeft l time (lent .scratch)) (lent .scratch); output = lent .output } }) (refusal n)
   unfolding roomAfter
   refused-as n b o k = record {
     answer = sym (λ j. o j .answer);
@@ -111,10 +111,10 @@ module _ (l : Lent) (i : ℕ) (time : Float) (lent : Room) where
   }
 
   -- 1 to 7: nothing is changed
-  pub refused-first : (n : ℕ) → n ≡ lowest early (pick (isSome (meshAt scene i)) 0 7) → (n ≡ 0 → ⊥) → Baked l i time lent lent (refusal n)
+  pub refused-first : (n : ℕ) → n ≡ lowest early (pick (isSome (meshAt scene i)) 0 7) → (n ≡ 0 → ⊥) → Baked l i time (record { from = lent; to = lent }) (refusal n)
   refused-first n e d = go early (meshAt scene i) refl refl
     where
-      go : (g : ℕ) (m : Option Mesh) → early ≡ g → meshAt scene i ≡ m → Baked l i time lent lent (refusal n)
+      go : (g : ℕ) (m : Option Mesh) → early ≡ g → meshAt scene i ≡ m → Baked l i time (record { from = lent; to = lent }) (refusal n)
       go zero none p q =
           let s : n ≡ 7 = e ∙ (λ j. lowest (p j) (pick (isSome (q j)) 0 7)) in
           refused-as n false (first zero none p q ∙ ap model.refused (sym s)) (left-by zero none p q)
@@ -130,7 +130,7 @@ module _ (l : Lent) (i : ℕ) (time : Float) (lent : Room) where
     -- 8 to 10: the scratch room as an accepted call leaves it
     pub refused-late : (fit : Bool) → ((w : Matrix) (o : Option (List Matrix)) → model.fits (requestOf i time lent) (resultNow w o) ≡ fit)
         → (n : ℕ) → n ≡ lateNumber (isSome worldNow) (isSome paletteNow) fit → (n ≡ 0 → ⊥)
-        → Baked l i time lent (record { scratch = scratchLeft l time (lent .scratch); output = lent .output }) (refusal n)
+        → Baked l i time (record { from = lent; to = record { scratch = scratchLeft l time (lent .scratch); output = lent .output } }) (refusal n)
     refused-late fit f n e d =
         refused-as n true
         (first zero (some x) p q ∙ judged-late (requestOf i time lent) (taken scene) posedNow ownNow x worldNow paletteNow fit f n e d)
@@ -139,7 +139,7 @@ module _ (l : Lent) (i : ℕ) (time : Float) (lent : Room) where
     pub accepted : (w : Matrix) (o : Option (List Matrix)) → worldNow ≡ some w → paletteNow ≡ some o → model.fits (requestOf i time lent) (resultNow w o) ≡ true
         → (a : Answer) → answerOf a ≡ record { refusal = 0; positions = length (resultNow w o .positions); normals = length (resultNow w o .normals); tangents = length (resultNow w o .tangents); taken = taken scene }
         → (left : model.Output) → left ≡ record { positions = model.written (resultNow w o .positions) (lent .output .positions); normals = model.written (resultNow w o .normals) (lent .output .normals); tangents = model.written (resultNow w o .tangents) (lent .output .tangents) }
-        → Baked l i time lent (record { scratch = scratchLeft l time (lent .scratch); output = left }) a
+        → Baked l i time (record { from = lent; to = record { scratch = scratchLeft l time (lent .scratch); output = left } }) a
     unfolding roomAfter
     accepted w o g h f a e left c =
         let k = left-by zero (some x) p q in

@@ -11,7 +11,7 @@ use Rattle.model.proofs.Demand as proved
 use Rattle.tables.specs.Decoded.{Lent, sceneOf}
 use Rattle.checks.specs.Drawn.{tablesNumber}
 use Rattle.bake.specs.declared.Answer.{Answer}
-use Rattle.bake.specs.Baked.{Room, requestOf, outcome, answerOf, roomAfter, Baked}
+use Rattle.bake.specs.Baked.{Room, Change, requestOf, outcome, answerOf, roomAfter, Baked}
 use Rattle.bake.specs.Makers.{SameLengths, NotRefusedEarly, SameShown}
 use Rattle.bake.proofs.TablesRange.{tables-at-most-2}
 
@@ -35,27 +35,29 @@ record Outputs (o : model.Outcome) (lent left : model.Output) : Type 0 where
   normals : left .normals ≡ model.written (o .output .normals) (lent .normals)
   tangents : left .tangents ≡ model.written (o .output .tangents) (lent .tangents)
 
-module _ (l : Lent) (i : ℕ) (time : Float) (lent left : Room) (a : Answer) (b : Baked l i time lent left a) where
-  outputs : Outputs (outcome l i time lent) (lent .output) (left .output)
+module _ (l : Lent) (i : ℕ) (time : Float) (c : Change) (a : Answer) (b : Baked l i time c a) where
+  outputs : Outputs (outcome l i time (c .from)) (c .from .output) (c .to .output)
   unfolding roomAfter
   outputs =
       let e = b .room in
       record { positions = λ j. e j .output .positions; normals = λ j. e j .output .normals; tangents = λ j. e j .output .tangents }
 
-  past : NotRefusedEarly a → Past6 (outcome l i time lent)
+  past : NotRefusedEarly a → Past6 (outcome l i time (c .from))
   past h = subst (λ (n : ℕ). 1 ≤ n → n ≤ 6 → ⊥) (λ j. b .answer j .refusal) h
 
-pub two-makers : (l₁ l₂ : Lent) (i : ℕ) (time : Float) (lent₁ left₁ lent₂ left₂ : Room) (a₁ a₂ : Answer)
-    → Baked l₁ i time lent₁ left₁ a₁ → Baked l₂ i time lent₂ left₂ a₂
-    → SameLengths lent₁ lent₂ → Agree (sceneOf l₁) (sceneOf l₂) i → NotRefusedEarly a₁ → NotRefusedEarly a₂
-    → SameShown a₁ a₂ left₁ left₂
-two-makers l₁ l₂ i time lent₁ left₁ lent₂ left₂ a₁ a₂ b₁ b₂ e h p₁ p₂ =
+pub two-makers : (l₁ l₂ : Lent) (i : ℕ) (time : Float) (c₁ c₂ : Change) (a₁ a₂ : Answer)
+    → Baked l₁ i time c₁ a₁ → Baked l₂ i time c₂ a₂
+    → SameLengths (c₁ .from) (c₂ .from) → Agree (sceneOf l₁) (sceneOf l₂) i → NotRefusedEarly a₁ → NotRefusedEarly a₂
+    → SameShown a₁ a₂ (c₁ .to) (c₂ .to)
+two-makers l₁ l₂ i time c₁ c₂ a₁ a₂ b₁ b₂ e h p₁ p₂ =
+    let lent₁ = c₁ .from in
+    let lent₂ = c₂ .from in
     let q = same-request i time lent₁ lent₂ e in
     let o : outcome l₁ i time lent₁ ≡ model.bake (tablesNumber l₁) (sceneOf l₁) (requestOf i time lent₂) = ap (model.bake (tablesNumber l₁) (sceneOf l₁)) q in
     let s = proved.demand (sceneOf l₁) (sceneOf l₂) (requestOf i time lent₂) h (tablesNumber l₁) (tablesNumber l₂) (tables-at-most-2 l₁) (tables-at-most-2 l₂)
-    (subst Past6 o (past l₁ i time lent₁ left₁ a₁ b₁ p₁)) (past l₂ i time lent₂ left₂ a₂ b₂ p₂) (lent₁ .output) (lent₂ .output) in
-    let x = outputs l₁ i time lent₁ left₁ a₁ b₁ in
-    let y = outputs l₂ i time lent₂ left₂ a₂ b₂ in
+    (subst Past6 o (past l₁ i time c₁ a₁ b₁ p₁)) (past l₂ i time c₂ a₂ b₂ p₂) (lent₁ .output) (lent₂ .output) in
+    let x = outputs l₁ i time c₁ a₁ b₁ in
+    let y = outputs l₂ i time c₂ a₂ b₂ in
     let u = b₁ .answer ∙ (λ j. o j .answer) in
     let v = b₂ .answer in
     let w = u ∙ s .answer ∙ sym v in

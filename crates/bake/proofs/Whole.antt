@@ -28,7 +28,7 @@ use Rattle.shapes.specs.declared.Lengths.{Lengths}
 use Rattle.shapes.specs.Rest.{lengthsBelow, AtMost, Drawable, PutOut}
 use Rattle.bake_stages.specs.Scratch.{Slices, roomOf, scratchLeft}
 use Rattle.bake_stages.specs.Skinned.{worldFrom, paletteFrom}
-use Rattle.bake_stages.specs.Late.{lateNumber}
+use Rattle.bake_stages.specs.Numbers.{lateNumber}
 use Rattle.bake_stages.proofs.Drawing.{early-accepted}
 use Rattle.bake_writing.specs.Delivered.{meshRecord, partOf, SkeletonsWithin, Delivered}
 use Rattle.bake_writing.proofs.Finishing.{worlds-are, palette-is}
@@ -38,7 +38,7 @@ use Rattle.bake.proofs.Meshed.{MeshIs, mesh-is, drawable, Measured, mea
 use Rattle.bake.proofs.Judging.{worldNow, paletteNow, posedNow, ownNow, resultNow, refusal, refused-late, accepted}
 
 -- said of an equal answer, and of an equal room
-pub said : (l : Lent) (i : ℕ) (time : Float) (lent left left′ : Room) (a b : Answer) → left′ ≡ left → a ≡ b → Baked l i time lent left b → Baked l i time lent left′ a
+pub said : (l : Lent) (i : ℕ) (time : Float) (lent left left′ : Room) (a b : Answer) → left′ ≡ left → a ≡ b → Baked l i time (record { from = lent; to = left }) b → Baked l i time (record { from = lent; to = left′ }) a
 said l i time lent left left′ a b e f h = record { answer = ap answerOf f ∙ h .answer; room = e ∙ h .room }
 
 none-first : (g : ℕ) (b : Bool) → lowest g (pick b 0 7) ≡ 0 → (g ≡ 0) × (b ≡ true)
@@ -120,7 +120,7 @@ module _ (l : Lent) (i : ℕ) (time : Float) (lent : Room) (z : lowest (earlyNum
           (isSome (palette-is l i time (lent .scratch) (left .places) (left .worlds) places-are slots-are (is .node) j)) fit)
 
       pub turned-down : (r ≡ 0 → ⊥) → (a : Answer) → a ≡ record { number = r; positions = 0; normals = 0; tangents = 0; taken = 0 }
-          → Baked l i time lent (record { scratch = left; output = lent .output }) a
+          → Baked l i time (record { from = lent; to = record { scratch = left; output = lent .output } }) a
       turned-down d a h =
           said l i time lent _ _ a _ (λ j. record { scratch = k j; output = lent .output }) h
           (refused-late l i time lent mesh none-early (is .at) fit fits-is r late d)
@@ -134,7 +134,7 @@ module _ (l : Lent) (i : ℕ) (time : Float) (lent : Room) (z : lowest (earlyNum
 
         pub done : (t : ℕ) → t ≡ taken (sceneOf l) → (p o v : List Float)
             → Delivered l i time (left .marks) (left .places) (left .worlds) (lent .output .positions) p (lent .output .normals) o (lent .output .tangents) v
-            → Baked l i time lent (record { scratch = left; output = record { positions = p; normals = o; tangents = v } }) (record { number = 0; positions = n .positions; normals = n .normals; tangents = n .tangents; taken = t })
+            → Baked l i time (record { from = lent; to = record { scratch = left; output = record { positions = p; normals = o; tangents = v } } }) (record { number = 0; positions = n .positions; normals = n .normals; tangents = n .tangents; taken = t })
         done t c p o v d =
             there (worldNow l i time lent) (trues .0)
             (λ w x. there (paletteNow l i time lent) (trues .1)

@@ -3,17 +3,38 @@ use mathlib.Core.Path.{_≡_}
 use Prim.Native.Nat.{ℕ}
 use lib.Ieee.{Float}
 use lib.ListN.{length}
+use denote.Ref.{now}
+use Rattle.borrowed.specs.Slices.{Words, Floats}
 use Rattle.model.specs.Lists.{pick, isSome}
 use Rattle.model.specs.Bake as model
 use Rattle.tables.specs.Decoded.{Lent, sceneOf}
 use Rattle.checks.specs.Drawn.{tablesNumber}
-use Rattle.bake_stages.specs.Scratch.{Slices, roomOf, scratchLeft}
+use Rattle.bake_stages.specs.Scratch.{Slices, SlicesChange, scratchRoom, roomOf, scratchLeft}
 use Rattle.bake.specs.declared.Answer.{Answer}
 
 -- the scratch room and the three outputs (the scope's bench and sheets)
 pub record Room : Type 0 where
   pub scratch : Slices
   pub output : model.Output
+
+-- as a call that borrows it finds it, and as it leaves it
+pub record Change : Type 0 where
+  pub from : Room
+  pub to : Room
+
+abbrev pub room : Words → Floats → Words → Words → Floats → Floats → Floats → Floats → Change
+room marks slots walk places worlds positions normals tangents =
+    let scratch = scratchRoom marks slots walk places worlds in
+    record {
+      from = record {
+        scratch = scratch .from;
+        output = record { positions = now (positions .entry); normals = now (normals .entry); tangents = now (tangents .entry) };
+      };
+      to = record {
+        scratch = scratch .to;
+        output = record { positions = now (positions .exit); normals = now (normals .exit); tangents = now (tangents .exit) };
+      };
+    }
 
 -- node i at a time, with as much room
 abbrev pub requestOf : ℕ → Float → Room → model.Request
@@ -46,6 +67,6 @@ roomAfter l i time lent =
       };
     }
 
-pub record Baked (l : Lent) (i : ℕ) (time : Float) (lent left : Room) (a : Answer) : Type 0 where
-  pub answer : answerOf a ≡ outcome l i time lent .answer
-  pub room : left ≡ roomAfter l i time lent
+pub record Baked (l : Lent) (i : ℕ) (time : Float) (c : Change) (a : Answer) : Type 0 where
+  pub answer : answerOf a ≡ outcome l i time (c .from) .answer
+  pub room : c .to ≡ roomAfter l i time (c .from)

@@ -4,8 +4,8 @@ use tables::Header;
 ghost use mathlib.Core.Path.{_≡_};
 ghost use mathlib.Core.Bool.{_&&_};
 ghost use lib.Dec.{leb};
-ghost use Rattle.checks.specs.Drawn.{lentAs};
-ghost use Rattle.bake.specs.Baked.{Baked};
+ghost use Rattle.checks.specs.Drawn.{sceneLent};
+ghost use Rattle.bake.specs.Baked.{room, Baked};
 
 // A refusal number, or 0; how many floats were put out, and how many entries the placing took.
 #[repr(C)]
@@ -55,7 +55,7 @@ pub fn world_mesh_at<'a>(
     normals: &mut [f32],
     tangents: &mut [f32],
 ) -> Answer
-    ensures { λ r. ⌜ Baked (lentAs (now (words .entry)) (now (floats .entry)) (now («node_weights» .entry)) (now («mesh_weights» .entry)) h) node time (record { scratch = record { marks = now (marks .entry); slots = now (slots .entry); walk = now (walk .entry); places = now (places .entry); worlds = now (worlds .entry) }; output = record { positions = now (positions .entry); normals = now (normals .entry); tangents = now (tangents .entry) } }) (record { scratch = record { marks = now (marks .exit); slots = now (slots .exit); walk = now (walk .exit); places = now (places .exit); worlds = now (worlds .exit) }; output = record { positions = now (positions .exit); normals = now (normals .exit); tangents = now (tangents .exit) } }) r ⌝ }
+    ensures { λ r. ⌜ Baked (sceneLent words floats «node_weights» «mesh_weights» h) node time (room marks slots walk places worlds positions normals tangents) r ⌝ }
 {
     let number = bake_stages::first_number(
         words,

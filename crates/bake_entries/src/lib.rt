@@ -1,7 +1,7 @@
 // The C function of the bake; include/bake_entries.h declares it.
 use tables::Header;
-ghost use Rattle.checks.specs.Drawn.{lentAs};
-ghost use Rattle.bake.specs.Baked.{Baked};
+ghost use Rattle.checks.specs.Drawn.{sceneLent};
+ghost use Rattle.bake.specs.Baked.{room, Baked};
 
 // The mesh of a node in the world at a time, its primitives one after the other in the three outputs. Answers 1, 2, 3, 5 to
 // 10 or 0.
@@ -23,7 +23,7 @@ pub extern "C" fn bake_floats<'a>(
     normals: &mut [f32],
     tangents: &mut [f32],
 ) -> bake::Answer
-    ensures { λ r. ⌜ Baked (lentAs (now (words .entry)) (now (floats .entry)) (now («node_weights» .entry)) (now («mesh_weights» .entry)) header) node time (record { scratch = record { marks = now (marks .entry); slots = now (slots .entry); walk = now (walk .entry); places = now (places .entry); worlds = now (worlds .entry) }; output = record { positions = now (positions .entry); normals = now (normals .entry); tangents = now (tangents .entry) } }) (record { scratch = record { marks = now (marks .exit); slots = now (slots .exit); walk = now (walk .exit); places = now (places .exit); worlds = now (worlds .exit) }; output = record { positions = now (positions .exit); normals = now (normals .exit); tangents = now (tangents .exit) } }) r ⌝ }
+    ensures { λ r. ⌜ Baked (sceneLent words floats «node_weights» «mesh_weights» header) node time (room marks slots walk places worlds positions normals tangents) r ⌝ }
 {
     bake::world_mesh_at(
         words,

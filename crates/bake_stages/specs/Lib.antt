@@ -1,3 +1,3 @@
 pub mod Scratch
 pub mod Skinned
-pub mod Late
+pub mod Numbers

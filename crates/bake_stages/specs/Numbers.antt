@@ -1,8 +1,30 @@
--- The numbers of a bake past 7. Definitions only.
+-- The numbers of a bake, as its stages find them: as far as 6, as far as 7, and past 7. Definitions only.
 use mathlib.Core.Bool.{Bool}
+use mathlib.Core.List.{List}
 use Prim.Native.Nat.{ℕ}
-use Rattle.model.specs.Lists.{pick}
+use lib.Ieee.{Float}
+use Rattle.model.specs.Lists.{pick, isSome}
+use Rattle.model.specs.Scene.{meshAt}
+use Rattle.model.specs.Refusals.{Scratch, lowest, earlyNumber}
+use Rattle.tables.specs.Records.{nodeRow}
+use Rattle.tables.specs.Decoded.{Lent, sceneOf}
+use Rattle.checks.specs.Drawn.{tablesNumber}
+use Rattle.bake_stages.specs.Skinned.{worldFrom, paletteFrom}
+
+abbrev pub earlyFor : Lent → Float → Scratch → ℕ
+earlyFor l time r = earlyNumber (tablesNumber l) (sceneOf l) time r
+
+-- and 7 where node i has no mesh
+abbrev pub firstFor : Lent → ℕ → Float → Scratch → ℕ
+firstFor l i time r = lowest (earlyFor l time r) (pick (isSome (meshAt (sceneOf l) i)) 0 7)
 
 -- 8, 9, 10 or none: whether the node has a world, its palette can be made, and the outputs are long enough
 abbrev pub lateNumber : Bool → Bool → Bool → ℕ
 lateNumber placed palette fits = pick placed (pick palette (pick fits 0 10) 9) 8
+
+-- by the codes of the places and the slots of the worlds
+abbrev pub lateFor : Lent → ℕ → List ℕ → List Float → Bool → ℕ
+lateFor l i codes slots fits =
+    lateNumber (isSome (worldFrom l codes slots i))
+    (isSome (paletteFrom l (nodeRow (l .words) (l .header .graph .nodes) i .skin) codes slots))
+    fits

@@ -5,13 +5,16 @@ use mathlib.Core.List.{List, _++_}
 use Prim.Native.Nat.{ℕ, _*_, _≤_}
 use lib.Ieee.{Float, isNan}
 use lib.ListN.{length, drop, replicate}
+use denote.Ref.{now}
+use Rattle.borrowed.specs.Slices.{Words, Floats}
 use Rattle.model.specs.Scene.{nodeCount}
-use Rattle.model.specs.Placing.{places}
+use Rattle.model.specs.Placing.{places, taken}
 use Rattle.model.specs.World.{posesOf, worlds}
 use Rattle.model.specs.Refusals as refusals
 use Rattle.tables.specs.declared.Header.{Header}
 use Rattle.tables.specs.Decoded.{Lent, sceneOf}
 use Rattle.tables.specs.Codes.{codesOf}
+use Rattle.checks.specs.Drawn.{lentAs}
 use Rattle.placing.specs.Walk.{listingIn, entriesOf}
 use Rattle.pose_slots.specs.Slots.{room}
 use Rattle.pose.specs.Lines.{NoneDrawn, AllInLine}
@@ -26,6 +29,29 @@ pub record Slices : Type 0 where
   pub walk : List ℕ
   pub places : List ℕ
   pub worlds : List Float
+
+-- as a call that borrows them finds them, and as it leaves them
+pub record SlicesChange : Type 0 where
+  pub from : Slices
+  pub to : Slices
+
+abbrev pub scratchRoom : Words → Floats → Words → Words → Floats → SlicesChange
+scratchRoom marks slots walk places worlds = record {
+  from = record {
+    marks = now (marks .entry);
+    slots = now (slots .entry);
+    walk = now (walk .entry);
+    places = now (places .entry);
+    worlds = now (worlds .entry);
+  };
+  to = record {
+    marks = now (marks .exit);
+    slots = now (slots .exit);
+    walk = now (walk .exit);
+    places = now (places .exit);
+    worlds = now (worlds .exit);
+  };
+}
 
 abbrev pub roomOf : Slices → refusals.Scratch
 roomOf r = scratchOf (r .walk) (r .marks) (r .slots) (r .places) (r .worlds)
@@ -42,6 +68,13 @@ scratchLeft l time lent =
       places = codesOf (places s) ++ drop (nodeCount s) (lent .places);
       worlds = slotsOf (worlds (posesOf time s) s) ++ drop (nodeCount s * 16) (lent .worlds);
     }
+
+-- the entries taken are told; the weights of nodes and meshes do not matter
+abbrev pub PosedAndPlaced : Words → Floats → Header → Float → SlicesChange → ℕ → Type 0
+PosedAndPlaced words floats h time c told =
+    (own mesh : List Float)
+    → (told ≡ taken (sceneOf (lentAs (now (words .entry)) (now (floats .entry)) own mesh h)))
+    × (c .to ≡ scratchLeft (lentAs (now (words .entry)) (now (floats .entry)) own mesh h) time (c .from))
 
 -- what the stages ask of tables, time and room
 pub record Ready (words : List ℕ) (floats : List Float) (h : Header) (time : Float) (r : Slices) : Type 0 where

@@ -7,15 +7,9 @@ ghost use lib.Ieee.{Float};
 ghost use Prim.Native.Nat.{_<_};
 ghost use lib.Dec.{ltb};
 ghost use lib.ListN.{getD};
-ghost use Rattle.model.specs.Lists.{pick, isSome};
-ghost use Rattle.model.specs.Scene.{meshAt};
-ghost use Rattle.model.specs.Refusals.{lowest, earlyNumber};
-ghost use Rattle.tables.specs.Records.{nodeRow};
 ghost use Rattle.tables.specs.Tags.{isMarked};
-ghost use Rattle.tables.specs.Decoded.{sceneOf};
-ghost use Rattle.checks.specs.Drawn.{lentAs, tablesNumber};
-ghost use Rattle.bake_stages.specs.Skinned.{worldFrom, paletteFrom};
-ghost use Rattle.bake_stages.specs.Late.{lateNumber};
+ghost use Rattle.checks.specs.Drawn.{lentAs, sceneLent};
+ghost use Rattle.bake_stages.specs.Numbers.{earlyFor, firstFor, lateFor};
 
 // The number of a bake as far as 6, with room for so many entries, poses and worlds.
 fn early_number(
@@ -29,7 +23,7 @@ fn early_number(
     poses: usize,
     worlds: usize,
 ) -> u32
-    ensures { λ r. ⌜ r ≡ earlyNumber (tablesNumber (lentAs (now (words .entry)) (now (floats .entry)) (now («node_weights» .entry)) (now («mesh_weights» .entry)) h)) (sceneOf (lentAs (now (words .entry)) (now (floats .entry)) (now («node_weights» .entry)) (now («mesh_weights» .entry)) h)) time (record { walkRoom = walk; poseSlots = poses; worldSlots = worlds }) ⌝ }
+    ensures { λ r. ⌜ r ≡ earlyFor (sceneLent words floats «node_weights» «mesh_weights» h) time (record { walkRoom = walk; poseSlots = poses; worldSlots = worlds }) ⌝ }
 {
     let drawn = checks::tables_number(words, floats, node_weights, mesh_weights, h);
     if drawn != 0 {
@@ -67,7 +61,7 @@ pub fn first_number(
     poses: usize,
     worlds: usize,
 ) -> u32
-    ensures { λ r. ⌜ r ≡ lowest (earlyNumber (tablesNumber (lentAs (now (words .entry)) (now (floats .entry)) (now («node_weights» .entry)) (now («mesh_weights» .entry)) h)) (sceneOf (lentAs (now (words .entry)) (now (floats .entry)) (now («node_weights» .entry)) (now («mesh_weights» .entry)) h)) time (record { walkRoom = walk; poseSlots = poses; worldSlots = worlds })) (pick (isSome (meshAt (sceneOf (lentAs (now (words .entry)) (now (floats .entry)) (now («node_weights» .entry)) (now («mesh_weights» .entry)) h)) node)) 0 7) ⌝ }
+    ensures { λ r. ⌜ r ≡ firstFor (sceneLent words floats «node_weights» «mesh_weights» h) node time (record { walkRoom = walk; poseSlots = poses; worldSlots = worlds }) ⌝ }
 {
     let number = early_number(
         words,
@@ -111,7 +105,7 @@ pub fn late_number(
     places: &[u32],
     fit: bool,
 ) -> u32
-    ensures { λ r. ⌜ ((own mesh slots : List Float) → r ≡ lateNumber (isSome (worldFrom (lentAs (now (words .entry)) (now (floats .entry)) own mesh h) (now (places .entry)) slots node)) (isSome (paletteFrom (lentAs (now (words .entry)) (now (floats .entry)) own mesh h) (nodeRow (now (words .entry)) (h .graph .nodes) node .skin) (now (places .entry)) slots)) fit) ⌝ }
+    ensures { λ r. ⌜ ((own mesh slots : List Float) → r ≡ lateFor (lentAs (now (words .entry)) (now (floats .entry)) own mesh h) node (now (places .entry)) slots fit) ⌝ }
 {
     let nodes = h.graph.nodes;
     if is_placed(places, nodes.count, node) {

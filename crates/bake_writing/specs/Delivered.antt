@@ -2,10 +2,12 @@
 -- Definitions only.
 use mathlib.Core.Path.{_≡_}
 use mathlib.Core.Bool.{true}
-use mathlib.Core.List.{List, map}
+use mathlib.Core.List.{List, [], map}
 use mathlib.Core.Option.{Option, some}
 use Prim.Native.Nat.{ℕ, _<_}
 use lib.Ieee.{Float}
+use denote.Ref.{now}
+use Rattle.borrowed.specs.Slices.{Words, Floats}
 use Rattle.model.specs.Lists.{isSome}
 use Rattle.model.specs.Matrix.{Matrix}
 use Rattle.model.specs.Scene.{nodeAt, skeletonAt}
@@ -19,8 +21,8 @@ use Rattle.tables.specs.declared.MeshRow.{MeshRow}
 use Rattle.tables.specs.Records.{nodeRow, meshRow, skeletonRow}
 use Rattle.tables.specs.Decoded.{Lent, meshOf, sceneOf}
 use Rattle.row_checks.specs.Bounds.{skeletonWithin}
-use Rattle.checks.specs.Drawn.{tablesNumber}
-use Rattle.shapes.specs.Rest.{PutOut}
+use Rattle.checks.specs.Drawn.{lentAs, tablesNumber}
+use Rattle.shapes.specs.Rest.{primitivesIn, PutOut, PutsOut}
 use Rattle.bake_stages.specs.Scratch.{Slices, roomOf, scratchLeft}
 
 -- the record of node i's mesh, and its primitives
@@ -33,6 +35,13 @@ partOf words h i = meshRecord words h i .primitives
 abbrev pub SkeletonsWithin : List ℕ → Part → Type 0
 SkeletonsWithin words t = (k : ℕ) → k < t .count → skeletonWithin (skeletonRow words t k) ≡ true
 
+-- the primitives of a mesh, blended with weights, and placed by a world and a palette, stand at the start of the outputs
+abbrev pub MeshPutOut : Words → Floats → Header → Part → Matrix → Option (List Matrix) → Floats → Floats → Floats → Floats → Type 0
+MeshPutOut words floats h primitives world palette weights positions normals tangents =
+    PutsOut
+    (outputOf (map (bakedPrimitive world palette (now (weights .entry))) (primitivesIn (lentAs (now (words .entry)) (now (floats .entry)) [] [] h) primitives)))
+    positions normals tangents
+
 pub record Delivered (l : Lent) (i : ℕ) (time : Float) (marks places : List ℕ) (worlds′ lp p ln n lt t : List Float) : Type 0 where
   pub result : (lent : Slices) → earlyNumber (tablesNumber l) (sceneOf l) time (roomOf lent) ≡ 0
       → i < l .header .graph .nodes .count → nodeRow (l .words) (l .header .graph .nodes) i .mesh .id < l .header .meshes .meshes .count
@@ -43,3 +52,9 @@ pub record Delivered (l : Lent) (i : ℕ) (time : Float) (marks places : List �
       → PutOut
       (outputOf (map (bakedPrimitive w o (blendWeights (poseAt (posesOf time (sceneOf l)) i .weights) (nodeAt (sceneOf l) i .weights) (meshOf l (meshRecord (l .words) (l .header) i)))) (meshOf l (meshRecord (l .words) (l .header) i) .primitives)))
       lp p ln n lt t
+
+-- of the slices that a call borrows
+abbrev pub Delivers : Lent → ℕ → Float → Words → Words → Floats → Floats → Floats → Floats → Type 0
+Delivers l i time marks places worlds′ positions normals tangents =
+    Delivered l i time (now (marks .entry)) (now (places .entry)) (now (worlds′ .entry)) (now (positions .entry)) (now (positions .exit))
+    (now (normals .entry)) (now (normals .exit)) (now (tangents .entry)) (now (tangents .exit))

@@ -6,9 +6,9 @@ use tables::MeshRow;
 ghost use mathlib.Core.Path.{_≡_};
 ghost use lib.ListN.{length};
 ghost use Rattle.tables.specs.Records.{nodeRow, meshRow};
-ghost use Rattle.checks.specs.Drawn.{lentAs};
+ghost use Rattle.checks.specs.Drawn.{sceneLent};
 ghost use Rattle.shapes.specs.Rest.{lengthsBelow, AtMost, Drawable};
-ghost use Rattle.bake_writing.specs.Delivered.{partOf, SkeletonsWithin, Delivered};
+ghost use Rattle.bake_writing.specs.Delivered.{partOf, SkeletonsWithin, Delivers};
 
 // The record of a node's mesh.
 pub fn mesh_of(words: &[u32], h: Header, node: u32) -> MeshRow
@@ -37,7 +37,7 @@ pub fn deliver<'a>(
     tangents: &mut [f32],
 )
     requires { ⌜ Drawable (now words) (now floats) (h .meshes .primitives) (partOf (now words) h node) × AtMost (lengthsBelow (now words) (h .meshes .primitives) (partOf (now words) h node) (partOf (now words) h node .count)) (length (now positions)) (length (now normals)) (length (now tangents)) × SkeletonsWithin (now words) (h .skins .skeletons) ⌝ }
-    ensures { λ _. ⌜ Delivered (lentAs (now (words .entry)) (now (floats .entry)) (now («node_weights» .entry)) (now («mesh_weights» .entry)) h) node time (now (marks .entry)) (now (places .entry)) (now (worlds .entry)) (now (positions .entry)) (now (positions .exit)) (now (normals .entry)) (now (normals .exit)) (now (tangents .entry)) (now (tangents .exit)) ⌝ }
+    ensures { λ _. ⌜ Delivers (sceneLent words floats «node_weights» «mesh_weights» h) node time marks places worlds positions normals tangents ⌝ }
 {
     let mut blend = [0.0f32; 64];
     let mesh = mesh_of(words, h, node);

@@ -4,17 +4,16 @@ use skin::Joints;
 use tables::Header;
 use tables::Reference;
 ghost use mathlib.Core.Path.{_≡_};
-ghost use mathlib.Core.List.{List, [], map};
+ghost use mathlib.Core.List.{List, []};
 ghost use mathlib.Core.Option.{Option, some};
 ghost use lib.Ieee.{Float};
 ghost use lib.ListN.{length};
 ghost use Rattle.model.specs.Lists.{orElse};
 ghost use Rattle.model.specs.Matrix.{Matrix};
-ghost use Rattle.model.specs.Bake.{bakedPrimitive, outputOf};
 ghost use Rattle.checks.specs.Drawn.{lentAs};
-ghost use Rattle.shapes.specs.Rest.{primitivesIn, lengthsBelow, AtMost, Drawable, PutOut};
+ghost use Rattle.shapes.specs.Rest.{lengthsBelow, AtMost, Drawable};
 ghost use Rattle.bake_stages.specs.Skinned.{skinPaletteFrom, paletteFrom};
-ghost use Rattle.bake_writing.specs.Delivered.{SkeletonsWithin};
+ghost use Rattle.bake_writing.specs.Delivered.{SkeletonsWithin, MeshPutOut};
 
 // How many joint matrices the palette of a skin has; 0 where there is none.
 fn joints_of(words: &[u32], floats: &[f32], h: Header, skin: u32, places: &[u32]) -> usize
@@ -42,7 +41,7 @@ fn put_skinned(
     tangents: &mut [f32],
 )
     requires { ⌜ Drawable (now words) (now floats) (h .meshes .primitives) part × AtMost (lengthsBelow (now words) (h .meshes .primitives) part (part .count)) (length (now positions)) (length (now normals)) (length (now tangents)) × SkeletonsWithin (now words) (h .skins .skeletons) ⌝ }
-    ensures { λ _. ⌜ ((own mesh : List Float) (p : List Matrix) → skinPaletteFrom (lentAs (now (words .entry)) (now (floats .entry)) own mesh h) skin (now (places .entry)) (now (worlds .entry)) ≡ some p → PutOut (outputOf (map (bakedPrimitive (world .m) (some p) (now (weights .entry))) (primitivesIn (lentAs (now (words .entry)) (now (floats .entry)) [] [] h) part))) (now (positions .entry)) (now (positions .exit)) (now (normals .entry)) (now (normals .exit)) (now (tangents .entry)) (now (tangents .exit))) ⌝ }
+    ensures { λ _. ⌜ ((own mesh : List Float) (p : List Matrix) → skinPaletteFrom (lentAs (now (words .entry)) (now (floats .entry)) own mesh h) skin (now (places .entry)) (now (worlds .entry)) ≡ some p → MeshPutOut words floats h part (world .m) (some p) weights positions normals tangents) ⌝ }
 {
     let mut palette = [0.0f32; 4096];
     skin::write_palette(words, floats, h, skin, places, worlds, &mut palette);
@@ -78,7 +77,7 @@ pub(crate) fn put_out(
     tangents: &mut [f32],
 )
     requires { ⌜ Drawable (now words) (now floats) (h .meshes .primitives) part × AtMost (lengthsBelow (now words) (h .meshes .primitives) part (part .count)) (length (now positions)) (length (now normals)) (length (now tangents)) × SkeletonsWithin (now words) (h .skins .skeletons) ⌝ }
-    ensures { λ _. ⌜ ((own mesh : List Float) (p : Option (List Matrix)) → paletteFrom (lentAs (now (words .entry)) (now (floats .entry)) own mesh h) skin (now (places .entry)) (now (worlds .entry)) ≡ some p → PutOut (outputOf (map (bakedPrimitive (world .m) p (now (weights .entry))) (primitivesIn (lentAs (now (words .entry)) (now (floats .entry)) [] [] h) part))) (now (positions .entry)) (now (positions .exit)) (now (normals .entry)) (now (normals .exit)) (now (tangents .entry)) (now (tangents .exit))) ⌝ }
+    ensures { λ _. ⌜ ((own mesh : List Float) (p : Option (List Matrix)) → paletteFrom (lentAs (now (words .entry)) (now (floats .entry)) own mesh h) skin (now (places .entry)) (now (worlds .entry)) ≡ some p → MeshPutOut words floats h part (world .m) p weights positions normals tangents) ⌝ }
 {
     if tables::is_marked(skin.mark) {
         put_skinned(

@@ -8,7 +8,7 @@ ghost use mathlib.Core.Path.{_≡_};
 ghost use Prim.Native.Nat.{_+_, _*_};
 ghost use lib.ListN.{getD};
 ghost use Rattle.tables.specs.Records.{channelRow};
-ghost use Rattle.checks.specs.Drawn.{lentAs};
+ghost use Rattle.checks.specs.Drawn.{sceneLent};
 ghost use Rattle.bake_writing.specs.Weights.{Weighed, Unposed, Blending};
 
 // The weights of channel k at a time, at the start of `out`; answers how many.
@@ -72,7 +72,7 @@ pub(crate) fn weights_into<'a>(
     marks: &[u32],
     out: &mut [f32; 64],
 ) -> usize
-    ensures { λ r. ⌜ Blending (lentAs (now (words .entry)) (now (floats .entry)) (now («node_weights» .entry)) (now («mesh_weights» .entry)) h) time (now (marks .entry)) node mesh (now (out .exit)) r ⌝ }
+    ensures { λ r. ⌜ Blending (sceneLent words floats «node_weights» «mesh_weights» h) time (now (marks .entry)) node mesh (now (out .exit)) r ⌝ }
 {
     let i = wide(node);
     let word = weights_word(marks, i);

@@ -2,11 +2,12 @@ use bake::Answer;
 use byte_rooms::bake_decoded;
 use tables::Header;
 ghost use lib.Ieee.{binary32, ofBits};
-ghost use Rattle.lent_bytes.specs.Bytes.{lentIn, drawnIn};
+ghost use Rattle.lent_bytes.specs.Bytes.{bytesLent, bytesDrawn};
+ghost use Rattle.byte_writing.specs.Bytes.{byteRoom};
 ghost use Rattle.byte_rooms.specs.Baked.{BakedBytes};
 
-// The mesh of a node in the world at the time with the given bit pattern, as `bake_floats` says it, on bytes. A slice of the
-// scene of more than its local array holds is over size, 2. Answers 1, 2, 3, 5 to 10 or 0. What the scratch room and the
+// The mesh of a node in the world at the time with the given bit pattern, as `bake_floats` says it, on bytes. Where a
+// slice of the scene has more than its local array holds, the answer is 1 as far as the header shows it, otherwise 2. Answers 1, 2, 3, 5 to 10 or 0. What the scratch room and the
 // outputs hold at entry is not read.
 #[no_mangle]
 pub extern "C" fn bake(
@@ -26,16 +27,18 @@ pub extern "C" fn bake(
     normals: &mut [u8],
     tangents: &mut [u8],
 ) -> Answer
-    ensures { λ r. ⌜ BakedBytes (drawnIn (now (words .entry)) (now (floats .entry)) (now («node_weights» .entry)) (now («mesh_weights» .entry)) header) (lentIn (now (words .entry)) (now (floats .entry)) (now («node_weights» .entry)) (now («mesh_weights» .entry)) header) node (ofBits binary32 time) (record { scratch = record { marks = now (marks .entry); slots = now (slots .entry); walk = now (walk .entry); places = now (places .entry); worlds = now (worlds .entry) }; output = record { positions = now (positions .entry); normals = now (normals .entry); tangents = now (tangents .entry) } }) (record { scratch = record { marks = now (marks .exit); slots = now (slots .exit); walk = now (walk .exit); places = now (places .exit); worlds = now (worlds .exit) }; output = record { positions = now (positions .exit); normals = now (normals .exit); tangents = now (tangents .exit) } }) r ⌝ }
+    ensures { λ r. ⌜ BakedBytes (bytesDrawn words floats «node_weights» «mesh_weights» header) (bytesLent words floats «node_weights» «mesh_weights» header) node (ofBits binary32 time) (byteRoom marks slots walk places worlds positions normals tangents) r ⌝ }
 {
-    if lent_bytes::is_over(
+    let number = lent_bytes::over_number(
         words.len() / 4,
         floats.len() / 4,
         node_weights.len() / 4,
         mesh_weights.len() / 4,
-    ) {
+        header,
+    );
+    if number != 0 {
         return Answer {
-            number: 2,
+            number,
             positions: 0,
             normals: 0,
             tangents: 0,

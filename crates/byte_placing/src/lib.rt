@@ -7,11 +7,9 @@ use lent_bytes::WORDS;
 use local_placing::place_rooms;
 use tables::Header;
 use worlds::Answer;
-ghost use lib.ListN.{take};
-ghost use Rattle.wire.specs.Bytes.{wordsIn, floatsIn};
-ghost use Rattle.checks.specs.Drawn.{lentAs, tablesNumber};
-ghost use Rattle.lent_bytes.specs.Bytes.{wordLimit, floatLimit};
-ghost use Rattle.local_placing.specs.Placed.{marksIn, slotsIn, PlacedBytes};
+ghost use Rattle.checks.specs.Drawn.{sceneLent};
+ghost use Rattle.lent_bytes.specs.Bytes.{weightsDecoded, startDecoded};
+ghost use Rattle.local_placing.specs.Placed.{marksIn, slotsIn, PlacesLent};
 
 fn place_pose(
     words: &[u32],
@@ -25,7 +23,7 @@ fn place_pose(
     places: &mut [u8],
     worlds: &mut [u8],
 ) -> Answer
-    ensures { λ r. ⌜ PlacedBytes (tablesNumber (lentAs (now (words .entry)) (now (floats .entry)) (now («node_weights» .entry)) (now («mesh_weights» .entry)) h)) (lentAs (now (words .entry)) (now (floats .entry)) (now («node_weights» .entry)) (now («mesh_weights» .entry)) h) (marksIn (now (marks .entry))) (slotsIn (now (slots .entry))) (now (walk .entry)) (now (walk .exit)) (now (places .entry)) (now (places .exit)) (now (worlds .entry)) (now (worlds .exit)) r ⌝ }
+    ensures { λ r. ⌜ PlacesLent (sceneLent words floats «node_weights» «mesh_weights» h) (marksIn (now (marks .entry))) (slotsIn (now (slots .entry))) walk places worlds r ⌝ }
 {
     let mut four = [0u32; MARKS];
     let mut ten = [0.0f32; SLOTS];
@@ -57,7 +55,7 @@ fn place_weights(
     places: &mut [u8],
     worlds: &mut [u8],
 ) -> Answer
-    ensures { λ r. ⌜ PlacedBytes (tablesNumber (lentAs (now (words .entry)) (now (floats .entry)) (take floatLimit (floatsIn (now («node_weights» .entry)))) (take floatLimit (floatsIn (now («mesh_weights» .entry)))) h)) (lentAs (now (words .entry)) (now (floats .entry)) (take floatLimit (floatsIn (now («node_weights» .entry)))) (take floatLimit (floatsIn (now («mesh_weights» .entry)))) h) (marksIn (now (marks .entry))) (slotsIn (now (slots .entry))) (now (walk .entry)) (now (walk .exit)) (now (places .entry)) (now (places .exit)) (now (worlds .entry)) (now (worlds .exit)) r ⌝ }
+    ensures { λ r. ⌜ PlacesLent (weightsDecoded words floats «node_weights» «mesh_weights» h) (marksIn (now (marks .entry))) (slotsIn (now (slots .entry))) walk places worlds r ⌝ }
 {
     let mut of_nodes = [0.0f32; FLOATS];
     let mut of_meshes = [0.0f32; FLOATS];
@@ -90,7 +88,7 @@ pub fn place_decoded(
     places: &mut [u8],
     worlds: &mut [u8],
 ) -> Answer
-    ensures { λ r. ⌜ PlacedBytes (tablesNumber (lentAs (take wordLimit (wordsIn (now (words .entry)))) (take floatLimit (floatsIn (now (floats .entry)))) (take floatLimit (floatsIn (now («node_weights» .entry)))) (take floatLimit (floatsIn (now («mesh_weights» .entry)))) h)) (lentAs (take wordLimit (wordsIn (now (words .entry)))) (take floatLimit (floatsIn (now (floats .entry)))) (take floatLimit (floatsIn (now («node_weights» .entry)))) (take floatLimit (floatsIn (now («mesh_weights» .entry)))) h) (marksIn (now (marks .entry))) (slotsIn (now (slots .entry))) (now (walk .entry)) (now (walk .exit)) (now (places .entry)) (now (places .exit)) (now (worlds .entry)) (now (worlds .exit)) r ⌝ }
+    ensures { λ r. ⌜ PlacesLent (startDecoded words floats «node_weights» «mesh_weights» h) (marksIn (now (marks .entry))) (slotsIn (now (slots .entry))) walk places worlds r ⌝ }
 {
     let mut records = [0u32; WORDS];
     let mut numbers = [0.0f32; FLOATS];

@@ -69,7 +69,7 @@ picked true n k h = h
 picked false n k h = omega arith
 
 -- ---- all slices
-module _ (l : Lent) (i : ℕ) (time : Float) (lent left : Room) (a : Answer) (b : Baked l i time lent left a) (bytes : ByteRoom) (s : ScratchUsed (lent .scratch) (bytes .scratch)) (o : OutputUsed (lent .output) (bytes .output)) (k : SameLengths left lent) where
+module _ (l : Lent) (i : ℕ) (time : Float) (lent left : Room) (a : Answer) (b : Baked l i time (record { from = lent; to = left }) a) (bytes : ByteRoom) (s : ScratchUsed (lent .scratch) (bytes .scratch)) (o : OutputUsed (lent .output) (bytes .output)) (k : SameLengths left lent) where
   same-request : requestOf i time lent ≡ requestIn i time bytes
   same-request = λ j. record {
     node = i;
@@ -227,7 +227,7 @@ module _ (l : Lent) (i : ℕ) (time : Float) (lent left : Room) (a : Answer) (b 
     pub fits : ScratchFits n (left .scratch) (bytes .scratch) × OutputFits n (left .output) (bytes .output)
     fits = subst (λ (m : Amounts). ScratchFits m (left .scratch) (bytes .scratch) × OutputFits m (left .output) (bytes .output)) (sym e) (scratch-fits, output-fits)
 
-    pub delivered : (written : ByteRoom) → written ≡ withRoom (roomStart n left) bytes → BakedLent l i time bytes written a
+    pub delivered : (written : ByteRoom) → written ≡ withRoom (roomStart n left) bytes → BakedLent l i time (record { from = bytes; to = written }) a
     delivered written w = record {
       answer = b .answer ∙ (λ j. model.bake (tablesNumber l) (sceneOf l) (same-request j) .answer);
       room = w ∙ (λ j. withRoom (roomStart (e j) left) bytes) ∙ (λ j. withRoom (start j) bytes);

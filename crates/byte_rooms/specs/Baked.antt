@@ -18,7 +18,7 @@ use Rattle.bake_stages.specs.Scratch.{Slices}
 use Rattle.bake.specs.declared.Answer.{Answer}
 use Rattle.bake.specs.Baked.{Room, answerOf}
 use Rattle.lent_bytes.specs.Bytes.{floatLimit, markLimit, slotLimit, walkLimit, codeLimit, worldLimit, used}
-use Rattle.byte_writing.specs.Bytes.{ByteRoom, withRoom}
+use Rattle.byte_writing.specs.Bytes.{ByteRoom, ByteChange, withRoom}
 
 -- node i at a time, with as much room as is used
 abbrev pub requestIn : ℕ → Float → ByteRoom → model.Request
@@ -61,10 +61,10 @@ writtenBy drawn l i time lent =
     }
 
 -- what the tables drew is given
-pub record BakedBytes (drawn : ℕ) (l : Lent) (i : ℕ) (time : Float) (lent left : ByteRoom) (a : Answer) : Type 0 where
-  pub answer : answerOf a ≡ model.bake drawn (sceneOf l) (requestIn i time lent) .answer
-  pub room : left ≡ withRoom (writtenBy drawn l i time lent) lent
+pub record BakedBytes (drawn : ℕ) (l : Lent) (i : ℕ) (time : Float) (c : ByteChange) (a : Answer) : Type 0 where
+  pub answer : answerOf a ≡ model.bake drawn (sceneOf l) (requestIn i time (c .from)) .answer
+  pub room : c .to ≡ withRoom (writtenBy drawn l i time (c .from)) (c .from)
 
 -- of a scene with no slice over size
-abbrev pub BakedLent : Lent → ℕ → Float → ByteRoom → ByteRoom → Answer → Type 0
-BakedLent l i time lent left a = BakedBytes (tablesNumber l) l i time lent left a
+abbrev pub BakedLent : Lent → ℕ → Float → ByteChange → Answer → Type 0
+BakedLent l i time c a = BakedBytes (tablesNumber l) l i time c a

@@ -4,10 +4,8 @@ use bake::Answer;
 use lent_bytes::FLOATS;
 use lent_bytes::WORDS;
 use tables::Header;
-ghost use lib.ListN.{take};
-ghost use Rattle.wire.specs.Bytes.{wordsIn, floatsIn};
-ghost use Rattle.checks.specs.Drawn.{lentAs};
-ghost use Rattle.lent_bytes.specs.Bytes.{wordLimit, floatLimit};
+ghost use Rattle.lent_bytes.specs.Bytes.{weightsDecoded, startDecoded};
+ghost use Rattle.byte_writing.specs.Bytes.{byteRoom};
 ghost use Rattle.byte_rooms.specs.Baked.{BakedLent};
 
 fn bake_weights(
@@ -27,7 +25,7 @@ fn bake_weights(
     normals: &mut [u8],
     tangents: &mut [u8],
 ) -> Answer
-    ensures { λ r. ⌜ BakedLent (lentAs (now (words .entry)) (now (floats .entry)) (take floatLimit (floatsIn (now («node_weights» .entry)))) (take floatLimit (floatsIn (now («mesh_weights» .entry)))) h) node time (record { scratch = record { marks = now (marks .entry); slots = now (slots .entry); walk = now (walk .entry); places = now (places .entry); worlds = now (worlds .entry) }; output = record { positions = now (positions .entry); normals = now (normals .entry); tangents = now (tangents .entry) } }) (record { scratch = record { marks = now (marks .exit); slots = now (slots .exit); walk = now (walk .exit); places = now (places .exit); worlds = now (worlds .exit) }; output = record { positions = now (positions .exit); normals = now (normals .exit); tangents = now (tangents .exit) } }) r ⌝ }
+    ensures { λ r. ⌜ BakedLent (weightsDecoded words floats «node_weights» «mesh_weights» h) node time (byteRoom marks slots walk places worlds positions normals tangents) r ⌝ }
 {
     let mut of_nodes = [0.0f32; FLOATS];
     let mut of_meshes = [0.0f32; FLOATS];
@@ -70,7 +68,7 @@ pub fn bake_decoded(
     normals: &mut [u8],
     tangents: &mut [u8],
 ) -> Answer
-    ensures { λ r. ⌜ BakedLent (lentAs (take wordLimit (wordsIn (now (words .entry)))) (take floatLimit (floatsIn (now (floats .entry)))) (take floatLimit (floatsIn (now («node_weights» .entry)))) (take floatLimit (floatsIn (now («mesh_weights» .entry)))) h) node time (record { scratch = record { marks = now (marks .entry); slots = now (slots .entry); walk = now (walk .entry); places = now (places .entry); worlds = now (worlds .entry) }; output = record { positions = now (positions .entry); normals = now (normals .entry); tangents = now (tangents .entry) } }) (record { scratch = record { marks = now (marks .exit); slots = now (slots .exit); walk = now (walk .exit); places = now (places .exit); worlds = now (worlds .exit) }; output = record { positions = now (positions .exit); normals = now (normals .exit); tangents = now (tangents .exit) } }) r ⌝ }
+    ensures { λ r. ⌜ BakedLent (startDecoded words floats «node_weights» «mesh_weights» h) node time (byteRoom marks slots walk places worlds positions normals tangents) r ⌝ }
 {
     let mut records = [0u32; WORDS];
     let mut numbers = [0.0f32; FLOATS];

@@ -9,7 +9,8 @@ use lent_bytes::SLOTS;
 use lent_bytes::WALK;
 use lent_bytes::WORLDS;
 use tables::Header;
-ghost use Rattle.checks.specs.Drawn.{lentAs};
+ghost use Rattle.checks.specs.Drawn.{sceneLent};
+ghost use Rattle.byte_writing.specs.Bytes.{byteRoom};
 ghost use Rattle.byte_rooms.specs.Baked.{BakedLent};
 ghost use Rattle.byte_rooms.specs.Used.{ScratchUsed, OutputUsed};
 
@@ -41,7 +42,8 @@ fn bake_over<'a>(
 ) -> Answer
     requires { ⌜ ScratchUsed (record { marks = now marks; slots = now slots; walk = now walk; places = now places; worlds = now worlds }) (record { marks = now «mark_bytes»; slots = now «slot_bytes»; walk = now «walk_bytes»; places = now «place_bytes»; worlds = now «world_bytes» }) ⌝ }
     requires { ⌜ OutputUsed (record { positions = now positions; normals = now normals; tangents = now tangents }) (record { positions = now «position_bytes»; normals = now «normal_bytes»; tangents = now «tangent_bytes» }) ⌝ }
-    ensures { λ r. ⌜ BakedLent (lentAs (now (words .entry)) (now (floats .entry)) (now («node_weights» .entry)) (now («mesh_weights» .entry)) h) node time (record { scratch = record { marks = now («mark_bytes» .entry); slots = now («slot_bytes» .entry); walk = now («walk_bytes» .entry); places = now («place_bytes» .entry); worlds = now («world_bytes» .entry) }; output = record { positions = now («position_bytes» .entry); normals = now («normal_bytes» .entry); tangents = now («tangent_bytes» .entry) } }) (record { scratch = record { marks = now («mark_bytes» .exit); slots = now («slot_bytes» .exit); walk = now («walk_bytes» .exit); places = now («place_bytes» .exit); worlds = now («world_bytes» .exit) }; output = record { positions = now («position_bytes» .exit); normals = now («normal_bytes» .exit); tangents = now («tangent_bytes» .exit) } }) r ⌝ }
+    ensures { λ r. ⌜ BakedLent (sceneLent words floats «node_weights» «mesh_weights» h) node time (byteRoom «mark_bytes» «slot_bytes» «walk_bytes» «place_bytes» «world_bytes»
+        «position_bytes» «normal_bytes» «tangent_bytes») r ⌝ }
 {
     let a = bake::world_mesh_at(
         words,
@@ -108,7 +110,8 @@ fn bake_outputs<'a>(
     tangent_bytes: &mut [u8],
 ) -> Answer
     requires { ⌜ ScratchUsed (record { marks = now marks; slots = now slots; walk = now walk; places = now places; worlds = now worlds }) (record { marks = now «mark_bytes»; slots = now «slot_bytes»; walk = now «walk_bytes»; places = now «place_bytes»; worlds = now «world_bytes» }) ⌝ }
-    ensures { λ r. ⌜ BakedLent (lentAs (now (words .entry)) (now (floats .entry)) (now («node_weights» .entry)) (now («mesh_weights» .entry)) h) node time (record { scratch = record { marks = now («mark_bytes» .entry); slots = now («slot_bytes» .entry); walk = now («walk_bytes» .entry); places = now («place_bytes» .entry); worlds = now («world_bytes» .entry) }; output = record { positions = now («position_bytes» .entry); normals = now («normal_bytes» .entry); tangents = now («tangent_bytes» .entry) } }) (record { scratch = record { marks = now («mark_bytes» .exit); slots = now («slot_bytes» .exit); walk = now («walk_bytes» .exit); places = now («place_bytes» .exit); worlds = now («world_bytes» .exit) }; output = record { positions = now («position_bytes» .exit); normals = now («normal_bytes» .exit); tangents = now («tangent_bytes» .exit) } }) r ⌝ }
+    ensures { λ r. ⌜ BakedLent (sceneLent words floats «node_weights» «mesh_weights» h) node time (byteRoom «mark_bytes» «slot_bytes» «walk_bytes» «place_bytes» «world_bytes»
+        «position_bytes» «normal_bytes» «tangent_bytes») r ⌝ }
 {
     let mut positions = [0.0f32; FLOATS];
     let mut normals = [0.0f32; FLOATS];
@@ -161,7 +164,8 @@ pub(crate) fn bake_rooms<'a>(
     normal_bytes: &mut [u8],
     tangent_bytes: &mut [u8],
 ) -> Answer
-    ensures { λ r. ⌜ BakedLent (lentAs (now (words .entry)) (now (floats .entry)) (now («node_weights» .entry)) (now («mesh_weights» .entry)) h) node time (record { scratch = record { marks = now («mark_bytes» .entry); slots = now («slot_bytes» .entry); walk = now («walk_bytes» .entry); places = now («place_bytes» .entry); worlds = now («world_bytes» .entry) }; output = record { positions = now («position_bytes» .entry); normals = now («normal_bytes» .entry); tangents = now («tangent_bytes» .entry) } }) (record { scratch = record { marks = now («mark_bytes» .exit); slots = now («slot_bytes» .exit); walk = now («walk_bytes» .exit); places = now («place_bytes» .exit); worlds = now («world_bytes» .exit) }; output = record { positions = now («position_bytes» .exit); normals = now («normal_bytes» .exit); tangents = now («tangent_bytes» .exit) } }) r ⌝ }
+    ensures { λ r. ⌜ BakedLent (sceneLent words floats «node_weights» «mesh_weights» h) node time (byteRoom «mark_bytes» «slot_bytes» «walk_bytes» «place_bytes» «world_bytes»
+        «position_bytes» «normal_bytes» «tangent_bytes») r ⌝ }
 {
     let mut marks = [0u32; MARKS];
     let mut slots = [0.0f32; SLOTS];

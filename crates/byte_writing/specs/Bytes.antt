@@ -3,6 +3,8 @@ use mathlib.Core.List.{List, _++_}
 use Prim.Native.Nat.{ℕ}
 use lib.Ieee.{Float}
 use lib.ListN.{length, drop}
+use denote.Ref.{now}
+use Rattle.borrowed.specs.Slices.{Words}
 use Rattle.model.specs.Bake.{Output}
 use Rattle.wire.specs.Bytes.{bytesOfWords, bytesOf}
 use Rattle.bake_stages.specs.Scratch.{Slices}
@@ -24,6 +26,52 @@ pub record ByteOutput : Type 0 where
 pub record ByteRoom : Type 0 where
   pub scratch : ByteSlices
   pub output : ByteOutput
+
+-- as a call that borrows it finds it, and as it leaves it
+pub record ByteSlicesChange : Type 0 where
+  pub from : ByteSlices
+  pub to : ByteSlices
+
+pub record ByteOutputChange : Type 0 where
+  pub from : ByteOutput
+  pub to : ByteOutput
+
+pub record ByteChange : Type 0 where
+  pub from : ByteRoom
+  pub to : ByteRoom
+
+abbrev pub byteScratch : Words → Words → Words → Words → Words → ByteSlicesChange
+byteScratch marks slots walk places worlds = record {
+  from = record {
+    marks = now (marks .entry);
+    slots = now (slots .entry);
+    walk = now (walk .entry);
+    places = now (places .entry);
+    worlds = now (worlds .entry);
+  };
+  to = record {
+    marks = now (marks .exit);
+    slots = now (slots .exit);
+    walk = now (walk .exit);
+    places = now (places .exit);
+    worlds = now (worlds .exit);
+  };
+}
+
+abbrev pub byteOutput : Words → Words → Words → ByteOutputChange
+byteOutput positions normals tangents = record {
+  from = record { positions = now (positions .entry); normals = now (normals .entry); tangents = now (tangents .entry) };
+  to = record { positions = now (positions .exit); normals = now (normals .exit); tangents = now (tangents .exit) };
+}
+
+abbrev pub byteRoom : Words → Words → Words → Words → Words → Words → Words → Words → ByteChange
+byteRoom marks slots walk places worlds positions normals tangents =
+    let scratch = byteScratch marks slots walk places worlds in
+    let output = byteOutput positions normals tangents in
+    record {
+      from = record { scratch = scratch .from; output = output .from };
+      to = record { scratch = scratch .to; output = output .to };
+    }
 
 -- a slice that starts with these bytes, and is as lent past them
 abbrev pub startingWith : List ℕ → List ℕ → List ℕ

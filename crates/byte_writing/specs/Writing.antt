@@ -1,16 +1,19 @@
 -- How much of each local array of a bake is written back. Definitions only.
+use mathlib.Core.Path.{_≡_}
 use mathlib.Core.Bool.{Bool, _||_}
 use mathlib.Core.List.{List}
 use Prim.Native.Nat.{ℕ, _*_, _≤_}
 use lib.Dec.{eqb, ltb}
 use lib.ListN.{length, take}
+use denote.Ref.{now}
+use Rattle.borrowed.specs.Slices.{Floats}
 use Rattle.model.specs.Lists.{pick}
 use Rattle.model.specs.Bake.{Output}
-use Rattle.bake_stages.specs.Scratch.{Slices}
+use Rattle.bake_stages.specs.Scratch.{Slices, SlicesChange}
 use Rattle.bake.specs.declared.Answer.{Answer}
-use Rattle.bake.specs.Baked.{Room}
+use Rattle.bake.specs.Baked.{Room, Change}
 use Rattle.byte_writing.specs.declared.Amounts.{Amounts}
-use Rattle.byte_writing.specs.Bytes.{ByteSlices, ByteOutput}
+use Rattle.byte_writing.specs.Bytes.{ByteSlices, ByteOutput, ByteSlicesChange, ByteOutputChange, ByteChange, withScratch, withOutput, withRoom}
 
 -- whether a call that answers a number has changed the scratch room
 abbrev pub isLeft : ℕ → Bool
@@ -52,6 +55,18 @@ outputStart n o = record {
 
 abbrev pub roomStart : Amounts → Room → Room
 roomStart n r = record { scratch = scratchStart n (r .scratch); output = outputStart n (r .output) }
+
+-- the start of each of these is written to the start of its bytes
+abbrev pub ScratchWritten : Amounts → SlicesChange → ByteSlicesChange → Type 0
+ScratchWritten n local bytes = bytes .to ≡ withScratch (scratchStart n (local .from)) (bytes .from)
+
+abbrev pub OutputWritten : Amounts → Floats → Floats → Floats → ByteOutputChange → Type 0
+OutputWritten n positions normals tangents bytes =
+    bytes .to
+    ≡ withOutput (outputStart n (record { positions = now (positions .entry); normals = now (normals .entry); tangents = now (tangents .entry) })) (bytes .from)
+
+abbrev pub RoomWritten : Amounts → Change → ByteChange → Type 0
+RoomWritten n local bytes = bytes .to ≡ withRoom (roomStart n (local .from)) (bytes .from)
 
 -- n words or floats are there, and have room
 pub record Fits {A : Type 0} (n : ℕ) (local : List A) (bytes : List ℕ) : Type 0 where

@@ -2,8 +2,10 @@
 use bake::Answer;
 ghost use mathlib.Core.Path.{_≡_};
 ghost use Prim.Native.Nat.{_≤_};
-ghost use Rattle.byte_writing.specs.Bytes.{ByteSlices, ByteOutput, ByteRoom, withScratch, withOutput, withRoom};
-ghost use Rattle.byte_writing.specs.Writing.{whenLeft, amountsOf, scratchStart, outputStart, roomStart, ScratchFits, OutputFits};
+ghost use Rattle.bake_stages.specs.Scratch.{scratchRoom};
+ghost use Rattle.bake.specs.Baked.{room};
+ghost use Rattle.byte_writing.specs.Bytes.{byteScratch, byteOutput, byteRoom};
+ghost use Rattle.byte_writing.specs.Writing.{whenLeft, amountsOf, ScratchWritten, OutputWritten, RoomWritten, ScratchFits, OutputFits};
 
 // In words and floats.
 pub struct Amounts {
@@ -63,7 +65,7 @@ fn write_scratch(
     world_bytes: &mut [u8],
 )
     requires { ⌜ ScratchFits n (record { marks = now marks; slots = now slots; walk = now walk; places = now places; worlds = now worlds }) (record { marks = now «mark_bytes»; slots = now «slot_bytes»; walk = now «walk_bytes»; places = now «place_bytes»; worlds = now «world_bytes» }) ⌝ }
-    ensures { λ _. ⌜ _≡_ {A = ByteSlices} (record { marks = now («mark_bytes» .exit); slots = now («slot_bytes» .exit); walk = now («walk_bytes» .exit); places = now («place_bytes» .exit); worlds = now («world_bytes» .exit) }) (withScratch (scratchStart n (record { marks = now (marks .entry); slots = now (slots .entry); walk = now (walk .entry); places = now (places .entry); worlds = now (worlds .entry) })) (record { marks = now («mark_bytes» .entry); slots = now («slot_bytes» .entry); walk = now («walk_bytes» .entry); places = now («place_bytes» .entry); worlds = now («world_bytes» .entry) })) ⌝ }
+    ensures { λ _. ⌜ ScratchWritten n (scratchRoom marks slots walk places worlds) (byteScratch «mark_bytes» «slot_bytes» «walk_bytes» «place_bytes» «world_bytes») ⌝ }
 {
     let m = n.marks;
     let s = n.slots;
@@ -87,7 +89,7 @@ fn write_outputs(
     tangent_bytes: &mut [u8],
 )
     requires { ⌜ OutputFits n (record { positions = now positions; normals = now normals; tangents = now tangents }) (record { positions = now «position_bytes»; normals = now «normal_bytes»; tangents = now «tangent_bytes» }) ⌝ }
-    ensures { λ _. ⌜ _≡_ {A = ByteOutput} (record { positions = now («position_bytes» .exit); normals = now («normal_bytes» .exit); tangents = now («tangent_bytes» .exit) }) (withOutput (outputStart n (record { positions = now (positions .entry); normals = now (normals .entry); tangents = now (tangents .entry) })) (record { positions = now («position_bytes» .entry); normals = now («normal_bytes» .entry); tangents = now («tangent_bytes» .entry) })) ⌝ }
+    ensures { λ _. ⌜ OutputWritten n positions normals tangents (byteOutput «position_bytes» «normal_bytes» «tangent_bytes») ⌝ }
 {
     let p = n.positions;
     let q = n.normals;
@@ -119,7 +121,8 @@ pub fn write_back(
 )
     requires { ⌜ ScratchFits n (record { marks = now marks; slots = now slots; walk = now walk; places = now places; worlds = now worlds }) (record { marks = now «mark_bytes»; slots = now «slot_bytes»; walk = now «walk_bytes»; places = now «place_bytes»; worlds = now «world_bytes» }) ⌝ }
     requires { ⌜ OutputFits n (record { positions = now positions; normals = now normals; tangents = now tangents }) (record { positions = now «position_bytes»; normals = now «normal_bytes»; tangents = now «tangent_bytes» }) ⌝ }
-    ensures { λ _. ⌜ _≡_ {A = ByteRoom} (record { scratch = record { marks = now («mark_bytes» .exit); slots = now («slot_bytes» .exit); walk = now («walk_bytes» .exit); places = now («place_bytes» .exit); worlds = now («world_bytes» .exit) }; output = record { positions = now («position_bytes» .exit); normals = now («normal_bytes» .exit); tangents = now («tangent_bytes» .exit) } }) (withRoom (roomStart n (record { scratch = record { marks = now (marks .entry); slots = now (slots .entry); walk = now (walk .entry); places = now (places .entry); worlds = now (worlds .entry) }; output = record { positions = now (positions .entry); normals = now (normals .entry); tangents = now (tangents .entry) } })) (record { scratch = record { marks = now («mark_bytes» .entry); slots = now («slot_bytes» .entry); walk = now («walk_bytes» .entry); places = now («place_bytes» .entry); worlds = now («world_bytes» .entry) }; output = record { positions = now («position_bytes» .entry); normals = now («normal_bytes» .entry); tangents = now («tangent_bytes» .entry) } })) ⌝ }
+    ensures { λ _. ⌜ RoomWritten n (room marks slots walk places worlds positions normals tangents)
+        (byteRoom «mark_bytes» «slot_bytes» «walk_bytes» «place_bytes» «world_bytes» «position_bytes» «normal_bytes» «tangent_bytes») ⌝ }
 {
     write_scratch(
         n,

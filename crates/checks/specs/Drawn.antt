@@ -6,6 +6,8 @@ use Prim.Native.Nat.{ℕ, zero, suc, _+_}
 use lib.Dec.{ltb, leb}
 use lib.Ieee.{Float}
 use lib.ListN.{length}
+use denote.Ref.{now}
+use Rattle.borrowed.specs.Slices.{Words, Floats}
 use Rattle.model.specs.Lists.{pick}
 use Rattle.model.specs.Limits.{nodeLimit, rootLimit, channelLimit, childEntryLimit}
 use Rattle.model.specs.Refusals.{number, outOfTable, overLimit}
@@ -154,6 +156,11 @@ sizesOf l = record {
 abbrev pub lentAs : List ℕ → List Float → List Float → List Float → Header → Lent
 lentAs words floats nodeWeights meshWeights h =
     record { words = words; floats = floats; nodeWeights = nodeWeights; meshWeights = meshWeights; header = h }
+
+-- the same of the slices that a call borrows
+abbrev pub sceneLent : Words → Floats → Floats → Floats → Header → Lent
+sceneLent words floats nodeWeights meshWeights h =
+    lentAs (now (words .entry)) (now (floats .entry)) (now (nodeWeights .entry)) (now (meshWeights .entry)) h
 
 unfoldable pub tablesNumber : Lent → ℕ
 tablesNumber l =

@@ -9,7 +9,7 @@ use tables::Header;
 ghost use mathlib.Core.Path.{_≡_};
 ghost use Prim.Native.Nat.{_+_, min};
 ghost use lib.ListN.{length};
-ghost use Rattle.checks.specs.Drawn.{recordWords, countWithin, tableNumber, wholeNumber, childrenNumber, rootsNumber, sumBelow, childCount, listedNumber, tablesNumber, sizesOf, lentAs};
+ghost use Rattle.checks.specs.Drawn.{recordWords, countWithin, tableNumber, wholeNumber, childrenNumber, rootsNumber, sumBelow, childCount, listedNumber, tablesNumber, sizesOf, sceneLent};
 
 // The words of a record.
 fn record_words(k: Table) -> usize
@@ -131,7 +131,7 @@ pub fn tables_number(
     mesh_weights: &[f32],
     h: Header,
 ) -> u32
-    ensures { λ r. ⌜ r ≡ tablesNumber (lentAs (now (words .entry)) (now (floats .entry)) (now («node_weights» .entry)) (now («mesh_weights» .entry)) h) ⌝ }
+    ensures { λ r. ⌜ r ≡ tablesNumber (sceneLent words floats «node_weights» «mesh_weights» h) ⌝ }
 {
     let graph = h.graph;
     let meshes = h.meshes;

@@ -2,7 +2,7 @@
 use tables::Header;
 use worlds::Answer;
 ghost use mathlib.Core.Path.{_≡_};
-ghost use Rattle.checks.specs.Drawn.{lentAs, tablesNumber};
+ghost use Rattle.checks.specs.Drawn.{sceneLent, tablesNumber};
 ghost use Rattle.graph.specs.Marks.{Parents};
 ghost use Rattle.pose.specs.Encoded.{Posed};
 ghost use Rattle.worlds.specs.Placed.{Placed};
@@ -16,7 +16,7 @@ pub extern "C" fn tables_number(
     mesh_weights: &[f32],
     header: Header,
 ) -> u32
-    ensures { λ r. ⌜ r ≡ tablesNumber (lentAs (now (words .entry)) (now (floats .entry)) (now («node_weights» .entry)) (now («mesh_weights» .entry)) header) ⌝ }
+    ensures { λ r. ⌜ r ≡ tablesNumber (sceneLent words floats «node_weights» «mesh_weights» header) ⌝ }
 {
     checks::tables_number(words, floats, node_weights, mesh_weights, header)
 }
@@ -32,7 +32,7 @@ pub extern "C" fn parents(
     header: Header,
     out: &mut [u32],
 ) -> u32
-    ensures { λ r. ⌜ Parents (lentAs (now (words .entry)) (now (floats .entry)) (now («node_weights» .entry)) (now («mesh_weights» .entry)) header) (now (out .entry)) (now (out .exit)) r ⌝ }
+    ensures { λ r. ⌜ Parents (sceneLent words floats «node_weights» «mesh_weights» header) (now (out .entry)) (now (out .exit)) r ⌝ }
 {
     graph::parents(words, floats, node_weights, mesh_weights, header, out)
 }
@@ -51,7 +51,7 @@ pub extern "C" fn place_floats(
     places: &mut [u32],
     worlds: &mut [f32],
 ) -> Answer
-    ensures { λ r. ⌜ Placed (lentAs (now (words .entry)) (now (floats .entry)) (now («node_weights» .entry)) (now («mesh_weights» .entry)) header) (now (marks .entry)) (now (slots .entry)) (now (walk .entry)) (now (walk .exit)) (now (places .entry)) (now (places .exit)) (now (worlds .entry)) (now (worlds .exit)) r ⌝ }
+    ensures { λ r. ⌜ Placed (sceneLent words floats «node_weights» «mesh_weights» header) (now (marks .entry)) (now (slots .entry)) (now (walk .entry)) (now (walk .exit)) (now (places .entry)) (now (places .exit)) (now (worlds .entry)) (now (worlds .exit)) r ⌝ }
 {
     worlds::posed_node_transforms(
         words,
@@ -79,7 +79,7 @@ pub extern "C" fn sample_pose(
     marks: &mut [u32],
     slots: &mut [f32],
 ) -> u32
-    ensures { λ r. ⌜ Posed (lentAs (now (words .entry)) (now (floats .entry)) (now («node_weights» .entry)) (now («mesh_weights» .entry)) header) time (now (marks .entry)) (now (slots .entry)) (now (marks .exit)) (now (slots .exit)) r ⌝ }
+    ensures { λ r. ⌜ Posed (sceneLent words floats «node_weights» «mesh_weights» header) time (now (marks .entry)) (now (slots .entry)) (now (marks .exit)) (now (slots .exit)) r ⌝ }
 {
     pose::sample_pose(
         words,

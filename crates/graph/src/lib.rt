@@ -2,7 +2,7 @@
 mod walk;
 
 use tables::Header;
-ghost use Rattle.checks.specs.Drawn.{lentAs};
+ghost use Rattle.checks.specs.Drawn.{sceneLent};
 ghost use Rattle.graph.specs.Marks.{Parents};
 
 // Writes the mark of each node to the start of `out`: 0 where no way leads to it, 1 for a root, p + 3 where node p listed
@@ -15,7 +15,7 @@ pub fn parents(
     h: Header,
     out: &mut [u32],
 ) -> u32
-    ensures { λ r. ⌜ Parents (lentAs (now (words .entry)) (now (floats .entry)) (now («node_weights» .entry)) (now («mesh_weights» .entry)) h) (now (out .entry)) (now (out .exit)) r ⌝ }
+    ensures { λ r. ⌜ Parents (sceneLent words floats «node_weights» «mesh_weights» h) (now (out .entry)) (now (out .exit)) r ⌝ }
 {
     let number = checks::tables_number(words, floats, node_weights, mesh_weights, h);
     if number != 0 {

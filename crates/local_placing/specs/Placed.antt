@@ -5,6 +5,8 @@ use Prim.Native.Nat.{ℕ, _*_, _/_, min}
 use lib.Dec.{eqb}
 use lib.Ieee.{Float}
 use lib.ListN.{length, take, drop, replicate}
+use denote.Ref.{now}
+use Rattle.borrowed.specs.Slices.{Words, Floats}
 use Rattle.model.specs.Lists.{pick}
 use Rattle.model.specs.Scene.{nodeCount}
 use Rattle.model.specs.Placing.{places, taken}
@@ -13,6 +15,7 @@ use Rattle.model.specs.Refusals.{Scratch, placeNumber}
 use Rattle.wire.specs.Bytes.{wordsIn, floatsIn, bytesOfWords, bytesOf}
 use Rattle.tables.specs.Decoded.{Lent, sceneOf}
 use Rattle.tables.specs.Codes.{codesOf}
+use Rattle.checks.specs.Drawn.{tablesNumber}
 use Rattle.pose_slots.specs.Slots.{room}
 use Rattle.worlds.specs.declared.Answer.{Answer}
 use Rattle.worlds.specs.Slots.{slotsOf}
@@ -43,6 +46,16 @@ pub record PlacedBytes (drawn : ℕ) (l : Lent) (marks : List ℕ) (slots : List
   pub floats :
       leftWorlds
       ≡ pick (eqb (a .number) 0) (bytesOf (slotsOf (worlds (posesIn marks slots (nodeCount (sceneOf l))) (sceneOf l))) ++ drop (4 * (nodeCount (sceneOf l) * 16)) lentWorlds) lentWorlds
+
+-- of the slices that a call borrows, with a pose that is given
+abbrev pub PlacesBytes : ℕ → Lent → List ℕ → List Float → Words → Words → Words → Answer → Type 0
+PlacesBytes drawn l marks slots walk codes worlds′ a =
+    PlacedBytes drawn l marks slots (now (walk .entry)) (now (walk .exit)) (now (codes .entry)) (now (codes .exit))
+    (now (worlds′ .entry)) (now (worlds′ .exit)) a
+
+-- of a scene with no slice over size
+abbrev pub PlacesLent : Lent → List ℕ → List Float → Words → Words → Words → Answer → Type 0
+PlacesLent l marks slots walk codes worlds′ a = PlacesBytes (tablesNumber l) l marks slots walk codes worlds′ a
 
 -- all steps of the walk, n codes and n matrices, written to the start of bytes
 pub record WrittenBack (n : ℕ) (steps codes : List ℕ) (matrices : List Float) (lentWalk leftWalk lentCodes leftCodes lentWorlds leftWorlds : List ℕ) : Type 0 where

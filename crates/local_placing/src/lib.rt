@@ -7,9 +7,9 @@ use worlds::Answer;
 ghost use mathlib.Core.Path.{_≡_};
 ghost use Prim.Native.Nat.{_*_, _≤_};
 ghost use lib.ListN.{length};
-ghost use Rattle.checks.specs.Drawn.{lentAs, tablesNumber};
+ghost use Rattle.checks.specs.Drawn.{sceneLent};
 ghost use Rattle.lent_bytes.specs.Bytes.{walkLimit, codeLimit, worldLimit, used};
-ghost use Rattle.local_placing.specs.Placed.{PlacedBytes, WrittenBack};
+ghost use Rattle.local_placing.specs.Placed.{PlacesLent, WrittenBack};
 
 fn write_back(
     n: usize,
@@ -47,7 +47,7 @@ fn place_over(
     worlds: &mut [u8],
 ) -> Answer
     requires { ⌜ (length (now steps) ≡ used walkLimit (now walk)) × (length (now codes) ≡ used codeLimit (now places)) × (length (now matrices) ≡ used worldLimit (now worlds)) ⌝ }
-    ensures { λ r. ⌜ PlacedBytes (tablesNumber (lentAs (now (words .entry)) (now (floats .entry)) (now («node_weights» .entry)) (now («mesh_weights» .entry)) h)) (lentAs (now (words .entry)) (now (floats .entry)) (now («node_weights» .entry)) (now («mesh_weights» .entry)) h) (now (marks .entry)) (now (slots .entry)) (now (walk .entry)) (now (walk .exit)) (now (places .entry)) (now (places .exit)) (now (worlds .entry)) (now (worlds .exit)) r ⌝ }
+    ensures { λ r. ⌜ PlacesLent (sceneLent words floats «node_weights» «mesh_weights» h) (now (marks .entry)) (now (slots .entry)) walk places worlds r ⌝ }
 {
     let a = worlds::posed_node_transforms(
         words,
@@ -83,7 +83,7 @@ pub fn place_rooms(
     places: &mut [u8],
     worlds: &mut [u8],
 ) -> Answer
-    ensures { λ r. ⌜ PlacedBytes (tablesNumber (lentAs (now (words .entry)) (now (floats .entry)) (now («node_weights» .entry)) (now («mesh_weights» .entry)) h)) (lentAs (now (words .entry)) (now (floats .entry)) (now («node_weights» .entry)) (now («mesh_weights» .entry)) h) (now (marks .entry)) (now (slots .entry)) (now (walk .entry)) (now (walk .exit)) (now (places .entry)) (now (places .exit)) (now (worlds .entry)) (now (worlds .exit)) r ⌝ }
+    ensures { λ r. ⌜ PlacesLent (sceneLent words floats «node_weights» «mesh_weights» h) (now (marks .entry)) (now (slots .entry)) walk places worlds r ⌝ }
 {
     let mut steps = [0u32; WALK];
     let mut codes = [0u32; NODES];

@@ -3,8 +3,10 @@ use mathlib.Core.Path.{_≡_}
 use mathlib.Core.List.{List, []}
 use mathlib.Core.Option.{Option}
 use lib.Ieee.{Float}
+use denote.Ref.{now}
+use Rattle.borrowed.specs.Slices.{Floats}
 use Rattle.model.specs.Lists.{orElse, rowsIn}
-use Rattle.model.specs.Vector.{Vector}
+use Rattle.model.specs.Vector.{Vector, _⊞_}
 use Rattle.model.specs.Scene.{Target}
 use Rattle.model.specs.Morph.{Station, withDeltas, stations, between}
 use Rattle.model.specs.Attributes.{overRows}
@@ -17,3 +19,9 @@ pub record Added (f : Vector → Vector → Vector) (positionDeltas normalDeltas
 -- the deltas of an attribute at w, between the stations of t
 unfoldable pub stationDeltas : (Station → Option (List Vector)) → Option (List Vector) → Target → Float → List Vector
 stationDeltas slot own t w = orElse (between slot own (stations t) w (segmentOf w (stations t))) []
+
+-- positions and normals with those of t added
+abbrev pub StationsAdded : Target → Float → Floats → Floats → Type 0
+StationsAdded t w positions normals =
+    Added _⊞_ (stationDeltas (λ s. s .positions) (t .positions) t w) (stationDeltas (λ s. s .normals) (t .normals) t w)
+    (now (positions .entry)) (now (positions .exit)) (now (normals .entry)) (now (normals .exit))

@@ -16,10 +16,10 @@ ghost use Rattle.model.specs.Lists.{foldl, rowsIn};
 ghost use Rattle.model.specs.Vector.{_⊞_};
 ghost use Rattle.model.specs.Morph.{withDeltas, stations};
 ghost use Rattle.model.specs.Attributes.{overRows};
-ghost use Rattle.tables.specs.Decoded.{slotIn, targetOf};
+ghost use Rattle.tables.specs.Decoded.{targetOf};
 ghost use Rattle.deltas.specs.Deltas.{lentIn};
 ghost use Rattle.deltas.specs.Betweens.{stationAt, betweensIn};
-ghost use Rattle.mesh.specs.Added.{Added, stationDeltas};
+ghost use Rattle.mesh.specs.Added.{StationsAdded};
 ghost use Rattle.mesh.specs.Stations.{stationsIn, widenedBy, Blends};
 ghost use Rattle.mesh.specs.Blended.{countIn, blendedIn};
 
@@ -125,7 +125,7 @@ pub(crate) fn add_stations(
     positions: &mut [f32],
     normals: &mut [f32],
 )
-    ensures { λ _. ⌜ Added _⊞_ (stationDeltas (λ s. s .positions) (slotIn (now (floats .entry)) (row .positions) 3) (targetOf (lentIn (now (words .entry)) (now (floats .entry)) h) row) w) (stationDeltas (λ s. s .normals) (slotIn (now (floats .entry)) (row .normals) 3) (targetOf (lentIn (now (words .entry)) (now (floats .entry)) h) row) w) (now (positions .entry)) (now (positions .exit)) (now (normals .entry)) (now (normals .exit)) ⌝ }
+    ensures { λ _. ⌜ StationsAdded (targetOf (lentIn (now (words .entry)) (now (floats .entry)) h) row) w positions normals ⌝ }
 {
     let b = blend_of(words, floats, h, row, w);
     let low = b.segment.low;

@@ -3,8 +3,9 @@
 use animation::Part;
 use deltas::Station;
 use tables::Header;
+ghost use Rattle.borrowed.specs.InPlace.{InPlace};
 ghost use Rattle.model.specs.Morph.{withTargets};
-ghost use Rattle.model.specs.Attributes.{attributesIn, shapeOf, Reshaped};
+ghost use Rattle.model.specs.Attributes.{shapeOf};
 ghost use Rattle.mesh.specs.Lent.{targetsIn};
 
 mod blending;
@@ -35,7 +36,7 @@ pub fn morphed(
     normals: &mut [f32],
     tangents: &mut [f32],
 )
-    ensures { λ _. ⌜ Reshaped (shapeOf (withTargets (targetsIn (now (words .entry)) (now (floats .entry)) h targets) (now (weights .entry)) (attributesIn (now (positions .entry)) (now (normals .entry)) (now (tangents .entry))))) (now (positions .entry)) (now (positions .exit)) (now (normals .entry)) (now (normals .exit)) (now (tangents .entry)) (now (tangents .exit)) ⌝ }
+    ensures { λ _. ⌜ InPlace (λ v. shapeOf (withTargets (targetsIn (now (words .entry)) (now (floats .entry)) h targets) (now (weights .entry)) v)) positions normals tangents ⌝ }
 {
     let n = wire::least(targets.count, weights.len());
     let mut k = 0;

@@ -8,10 +8,11 @@ use deltas::target_at;
 use tables::Header;
 use tables::TargetRow;
 ghost use Prim.Native.Nat.{_+_};
+ghost use Rattle.borrowed.specs.InPlace.{InPlace};
 ghost use Rattle.model.specs.Lists.{rowsIn};
 ghost use Rattle.model.specs.Vector.{_⊙_, _⊞_};
 ghost use Rattle.model.specs.Morph.{withTarget};
-ghost use Rattle.model.specs.Attributes.{attributesIn, shapeOf, Reshaped};
+ghost use Rattle.model.specs.Attributes.{shapeOf};
 ghost use Rattle.tables.specs.Records.{targetRow};
 ghost use Rattle.tables.specs.Decoded.{targetOf};
 ghost use Rattle.deltas.specs.Deltas.{lentIn, deltasIn};
@@ -37,7 +38,7 @@ fn add_target(
     normals: &mut [f32],
     tangents: &mut [f32],
 )
-    ensures { λ _. ⌜ Reshaped (shapeOf (withTarget (attributesIn (now (positions .entry)) (now (normals .entry)) (now (tangents .entry))) (targetOf (lentIn (now (words .entry)) (now (floats .entry)) h) row) w)) (now (positions .entry)) (now (positions .exit)) (now (normals .entry)) (now (normals .exit)) (now (tangents .entry)) (now (tangents .exit)) ⌝ }
+    ensures { λ _. ⌜ InPlace (λ v. shapeOf (withTarget v (targetOf (lentIn (now (words .entry)) (now (floats .entry)) h) row) w)) positions normals tangents ⌝ }
 {
     if w == 0.0 {
         return;
@@ -62,7 +63,7 @@ pub(crate) fn add_numbered(
     normals: &mut [f32],
     tangents: &mut [f32],
 )
-    ensures { λ _. ⌜ Reshaped (shapeOf (withTarget (attributesIn (now (positions .entry)) (now (normals .entry)) (now (tangents .entry))) (targetOf (lentIn (now (words .entry)) (now (floats .entry)) h) (targetRow (now (words .entry)) (h .meshes .targets) (targets .at + k))) w)) (now (positions .entry)) (now (positions .exit)) (now (normals .entry)) (now (normals .exit)) (now (tangents .entry)) (now (tangents .exit)) ⌝ }
+    ensures { λ _. ⌜ InPlace (λ v. shapeOf (withTarget v (targetOf (lentIn (now (words .entry)) (now (floats .entry)) h) (targetRow (now (words .entry)) (h .meshes .targets) (targets .at + k))) w)) positions normals tangents ⌝ }
 {
     let row = target_at(words, h, targets, k);
     add_target(words, floats, h, row, w, positions, normals, tangents);

@@ -1,8 +1,9 @@
 // The C function of morphed vertices; include/mesh_entries.h declares it.
 use animation::Part;
 use tables::Header;
+ghost use Rattle.borrowed.specs.InPlace.{InPlace};
 ghost use Rattle.model.specs.Morph.{withTargets};
-ghost use Rattle.model.specs.Attributes.{attributesIn, shapeOf, Reshaped};
+ghost use Rattle.model.specs.Attributes.{shapeOf};
 ghost use Rattle.mesh.specs.Lent.{targetsIn};
 
 // Adds the targets of a part, at these weights, to vertices that lie in flat slices.
@@ -18,7 +19,7 @@ pub extern "C" fn morphed_floats(
     normals: &mut [f32],
     tangents: &mut [f32],
 )
-    ensures { λ _. ⌜ Reshaped (shapeOf (withTargets (targetsIn (now (words .entry)) (now (floats .entry)) header (record { at = «targets_at»; count = «targets_count» })) (now (weights .entry)) (attributesIn (now (positions .entry)) (now (normals .entry)) (now (tangents .entry))))) (now (positions .entry)) (now (positions .exit)) (now (normals .entry)) (now (normals .exit)) (now (tangents .entry)) (now (tangents .exit)) ⌝ }
+    ensures { λ _. ⌜ InPlace (λ v. shapeOf (withTargets (targetsIn (now (words .entry)) (now (floats .entry)) header (record { at = «targets_at»; count = «targets_count» })) (now (weights .entry)) v)) positions normals tangents ⌝ }
 {
     let targets = Part {
         at: targets_at,

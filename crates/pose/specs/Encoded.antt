@@ -8,6 +8,8 @@ use lib.Dec.{eqb, ltb}
 use lib.Ieee.{Float}
 use lib.ListN.{getD, getElem?, drop}
 use lib.Seq.{paste}
+use denote.Ref.{now}
+use Rattle.borrowed.specs.Slices.{Words, Floats}
 use Rattle.model.specs.Lists.{pick, isSome, andThen}
 use Rattle.model.specs.Scene.{Track, nodeCount}
 use Rattle.model.specs.Sampling.{sample}
@@ -49,6 +51,12 @@ encodedWords time n tracks lent =
 unfoldable pub encodedFloats : Float → ℕ → List Track → List Float → List Float
 encodedFloats time n tracks lent = rowsOf n (λ i. floatsOf (getD (poses time n tracks) i atRest)) ++ drop (n * 10) lent
 
+-- both slices after channels have driven n nodes
+abbrev pub Encoded : List Track → Float → ℕ → Words → Floats → Type 0
+Encoded tracks time n marks slots =
+    (now (marks .exit) ≡ encodedWords time n tracks (now (marks .entry)))
+    × (now (slots .exit) ≡ encodedFloats time n tracks (now (slots .entry)))
+
 -- slots for n nodes in which nothing is posed
 abbrev pub clearedWords : ℕ → List ℕ → List ℕ
 clearedWords n lent = rowsOf n (λ i. wordsOf atRest 0) ++ drop (n * 4) lent
@@ -75,7 +83,10 @@ abbrev pub whenAccepted : {A : Type 0} → ℕ → A → A → A
 whenAccepted zero new lent = new
 whenAccepted (suc n) new lent = lent
 
+abbrev pub poseNumberFor : Lent → Float → ℕ → ℕ
+poseNumberFor l time slots = poseNumber (tablesNumber l) (sceneOf l) time slots
+
 pub record Posed (l : Lent) (time : Float) (marks : List ℕ) (slots : List Float) (marks′ : List ℕ) (slots′ : List Float) (number : ℕ) : Type 0 where
-  pub told : number ≡ poseNumber (tablesNumber l) (sceneOf l) time (room marks slots)
+  pub told : number ≡ poseNumberFor l time (room marks slots)
   pub words : marks′ ≡ whenAccepted number (encodedWords time (nodeCount (sceneOf l)) (sceneOf l .tracks) marks) marks
   pub floats : slots′ ≡ whenAccepted number (encodedFloats time (nodeCount (sceneOf l)) (sceneOf l .tracks) slots) slots

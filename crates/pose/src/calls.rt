@@ -7,15 +7,11 @@ ghost use mathlib.Core.Path.{_≡_};
 ghost use mathlib.Core.Bool.{false};
 ghost use Prim.Native.Nat.{_/_, _≤_, min};
 ghost use lib.Ieee.{isNan};
-ghost use Rattle.model.specs.Lists.{tabulate};
-ghost use Rattle.model.specs.Refusals.{poseNumber};
-ghost use Rattle.tables.specs.Records.{channelRow};
-ghost use Rattle.tables.specs.Decoded.{sceneOf};
-ghost use Rattle.checks.specs.Drawn.{lentAs, tablesNumber};
+ghost use Rattle.checks.specs.Drawn.{sceneLent};
 ghost use Rattle.pose_slots.specs.Slots.{room};
-ghost use Rattle.pose_slots.specs.Channels.{channelIn};
+ghost use Rattle.pose_slots.specs.Channels.{channelsIn};
 ghost use Rattle.pose.specs.Lines.{NoneDrawn, AllInLine};
-ghost use Rattle.pose.specs.Encoded.{encodedWords, encodedFloats, Posed};
+ghost use Rattle.pose.specs.Encoded.{Encoded, poseNumberFor, Posed};
 
 // How many nodes slices of such lengths have slots for.
 fn slots_in(marks: usize, slots: usize) -> usize
@@ -36,7 +32,7 @@ pub fn pose_number(
     time: f32,
     slots: usize,
 ) -> u32
-    ensures { λ r. ⌜ r ≡ poseNumber (tablesNumber (lentAs (now (words .entry)) (now (floats .entry)) (now («node_weights» .entry)) (now («mesh_weights» .entry)) h)) (sceneOf (lentAs (now (words .entry)) (now (floats .entry)) (now («node_weights» .entry)) (now («mesh_weights» .entry)) h)) time slots ⌝ }
+    ensures { λ r. ⌜ r ≡ poseNumberFor (sceneLent words floats «node_weights» «mesh_weights» h) time slots ⌝ }
 {
     let drawn = checks::tables_number(words, floats, node_weights, mesh_weights, h);
     if drawn != 0 {
@@ -66,7 +62,7 @@ pub fn pose_all(
     slots: &mut [f32],
 )
     requires { ⌜ NoneDrawn (now words) (now floats) channels × (isNan time ≡ false) × AllInLine (now words) (now floats) channels n × (n ≤ room (now marks) (now slots)) × (channels .count ≤ 1024) ⌝ }
-    ensures { λ _. ⌜ (now (marks .exit) ≡ encodedWords time n (tabulate (channels .count) (λ k. channelIn (now (floats .entry)) (channelRow (now (words .entry)) channels k))) (now (marks .entry))) × (now (slots .exit) ≡ encodedFloats time n (tabulate (channels .count) (λ k. channelIn (now (floats .entry)) (channelRow (now (words .entry)) channels k))) (now (slots .entry))) ⌝ }
+    ensures { λ _. ⌜ Encoded (channelsIn (now (words .entry)) (now (floats .entry)) channels) time n marks slots ⌝ }
 {
     clear(marks, slots, n);
     drive_all(words, floats, channels, n, time, marks, slots);
@@ -85,7 +81,7 @@ pub fn sample_pose(
     marks: &mut [u32],
     slots: &mut [f32],
 ) -> u32
-    ensures { λ r. ⌜ Posed (lentAs (now (words .entry)) (now (floats .entry)) (now («node_weights» .entry)) (now («mesh_weights» .entry)) h) time (now (marks .entry)) (now (slots .entry)) (now (marks .exit)) (now (slots .exit)) r ⌝ }
+    ensures { λ r. ⌜ Posed (sceneLent words floats «node_weights» «mesh_weights» h) time (now (marks .entry)) (now (slots .entry)) (now (marks .exit)) (now (slots .exit)) r ⌝ }
 {
     let space = slots_in(marks.len(), slots.len());
     let number = pose_number(words, floats, node_weights, mesh_weights, h, time, space);

@@ -4,14 +4,13 @@ use tables::Header;
 ghost use mathlib.Core.Path.{_≡_};
 ghost use mathlib.Core.List.{List};
 ghost use lib.Ieee.{Float};
-ghost use Rattle.model.specs.Lists.{anyOf, tabulate};
+ghost use Rattle.model.specs.Lists.{anyOf};
 ghost use Rattle.model.specs.Refusals.{someKeysOutOfLine};
 ghost use Rattle.animation.specs.Tracks.{tableNumber};
-ghost use Rattle.tables.specs.Records.{channelRow};
 ghost use Rattle.tables.specs.Tags.{trackFor};
 ghost use Rattle.tables.specs.Decoded.{sceneOf};
 ghost use Rattle.checks.specs.Drawn.{lentAs};
-ghost use Rattle.pose_slots.specs.Channels.{channelIn};
+ghost use Rattle.pose_slots.specs.Channels.{channelIn, channelsIn};
 ghost use Rattle.pose.specs.Lines.{outOfLine, NoneDrawn};
 
 // Whether a channel is an even track that is aimed at one of n nodes and has keys that are not in line.
@@ -28,7 +27,7 @@ fn is_out_of_line(floats: &[f32], row: ChannelRow, n: usize) -> bool
 // Whether there is such a channel.
 fn some_out_of_line(words: &[u32], floats: &[f32], channels: Part, n: usize) -> bool
     requires { ⌜ NoneDrawn (now words) (now floats) channels ⌝ }
-    ensures { λ r. ⌜ r ≡ anyOf (outOfLine n) (tabulate (channels .count) (λ k. channelIn (now (floats .entry)) (channelRow (now (words .entry)) channels k))) ⌝ }
+    ensures { λ r. ⌜ r ≡ anyOf (outOfLine n) (channelsIn (now (words .entry)) (now (floats .entry)) channels) ⌝ }
 {
     let count = channels.count;
     let mut k: usize = 0;

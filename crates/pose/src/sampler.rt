@@ -11,16 +11,15 @@ ghost use mathlib.Core.Path.{_≡_};
 ghost use mathlib.Core.Bool.{false, not, _&&_};
 ghost use Prim.Native.Nat.{_+_, _≤_, _<_};
 ghost use lib.Ieee.{isNan};
-ghost use Rattle.model.specs.Lists.{pick, tabulate};
+ghost use Rattle.model.specs.Lists.{pick};
 ghost use Rattle.model.specs.Sampling.{even, inLine};
 ghost use Rattle.animation.specs.Tracks.{tableNumber};
-ghost use Rattle.tables.specs.Records.{channelRow};
 ghost use Rattle.tables.specs.Tags.{trackFor};
 ghost use Rattle.pose_slots.specs.Slots.{poseOf, room};
-ghost use Rattle.pose_slots.specs.Channels.{channelIn};
+ghost use Rattle.pose_slots.specs.Channels.{channelIn, channelsIn};
 ghost use Rattle.pose_slots.specs.Gifts.{bare, bringsWeights};
 ghost use Rattle.pose.specs.Lines.{outOfLine, NoneDrawn, AllInLine};
-ghost use Rattle.pose.specs.Encoded.{clearedWords, clearedFloats, encodedWords, encodedFloats, driven, drivenWord, Driven};
+ghost use Rattle.pose.specs.Encoded.{clearedWords, clearedFloats, Encoded, driven, drivenWord, Driven};
 
 // What a slot holds.
 struct Slot {
@@ -94,7 +93,7 @@ pub(crate) fn drive_all(
     slots: &mut [f32],
 )
     requires { ⌜ NoneDrawn (now words) (now floats) channels × (isNan time ≡ false) × AllInLine (now words) (now floats) channels n × (n ≤ room (now marks) (now slots)) × (channels .count ≤ 1024) × (now marks ≡ clearedWords n (now marks)) × (now slots ≡ clearedFloats n (now slots)) ⌝ }
-    ensures { λ _. ⌜ (now (marks .exit) ≡ encodedWords time n (tabulate (channels .count) (λ k. channelIn (now (floats .entry)) (channelRow (now (words .entry)) channels k))) (now (marks .entry))) × (now (slots .exit) ≡ encodedFloats time n (tabulate (channels .count) (λ k. channelIn (now (floats .entry)) (channelRow (now (words .entry)) channels k))) (now (slots .entry))) ⌝ }
+    ensures { λ _. ⌜ Encoded (channelsIn (now (words .entry)) (now (floats .entry)) channels) time n marks slots ⌝ }
 {
     let count = channels.count;
     let mut k: usize = 0;

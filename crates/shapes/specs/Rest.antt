@@ -7,10 +7,13 @@ use Prim.Native.Nat.{ℕ, _+_, _*_, _≤_, _<_}
 use lib.Ieee.{Float}
 use lib.ListN.{length}
 use lib.Seq.{paste}
+use denote.Ref.{now}
+use Rattle.borrowed.specs.Slices.{Floats}
 use Rattle.model.specs.Lists.{pick, joined, rowsIn}
 use Rattle.model.specs.Matrix.{Matrix}
 use Rattle.model.specs.Scene as scene
 use Rattle.model.specs.Vertices.{Shape}
+use Rattle.model.specs.Attributes.{attributesIn, Reshaped}
 use Rattle.model.specs.Bake.{Output, written}
 use Rattle.animation.specs.declared.Part.{Part}
 use Rattle.tables.specs.declared.Slot.{Slot}
@@ -27,6 +30,11 @@ use Rattle.shapes.specs.declared.Lengths.{Lengths}
 abbrev pub slotFloats : List Float → Slot → ℕ → List Float
 slotFloats floats s width = pick (isMarked (s .mark)) (spanIn floats (s .part) width) []
 
+-- the attributes themselves
+abbrev pub attributesAt : List Float → PrimitiveRow → scene.Primitive
+attributesAt floats r =
+    attributesIn (spanIn floats (r .positions) 3) (slotFloats floats (r .normals) 3) (slotFloats floats (r .tangents) 4)
+
 -- three slices that are as long as the attributes
 pub record Sized (floats : List Float) (r : PrimitiveRow) (p n t : List Float) : Type 0 where
   pub positions : length p ≡ length (spanIn floats (r .positions) 3)
@@ -38,6 +46,12 @@ pub record AtRest (floats : List Float) (r : PrimitiveRow) (p n t : List Float) 
   pub positions : p ≡ spanIn floats (r .positions) 3
   pub normals : n ≡ slotFloats floats (r .normals) 3
   pub tangents : t ≡ slotFloats floats (r .tangents) 4
+
+-- three slices that hold a shape in the place of the attributes
+abbrev pub ShapedAs : Shape → List Float → PrimitiveRow → Floats → Floats → Floats → Type 0
+ShapedAs s floats r positions normals tangents =
+    Reshaped s (spanIn floats (r .positions) 3) (now (positions .exit)) (slotFloats floats (r .normals) 3) (now (normals .exit))
+    (slotFloats floats (r .tangents) 4) (now (tangents .exit))
 
 -- the palette, if there is one
 abbrev pub paletteIn : Bool → List Float → Option (List Matrix)
@@ -99,8 +113,18 @@ pub record PutOut (o : Output) (lentPositions leftPositions lentNormals leftNorm
   pub normals : leftNormals ≡ written (o .normals) lentNormals
   pub tangents : leftTangents ≡ written (o .tangents) lentTangents
 
+abbrev pub PutsOut : Output → Floats → Floats → Floats → Type 0
+PutsOut o positions normals tangents =
+    PutOut o (now (positions .entry)) (now (positions .exit)) (now (normals .entry)) (now (normals .exit))
+    (now (tangents .entry)) (now (tangents .exit))
+
 -- the outputs after a primitive is put out from a given place on
 pub record PutAt (s : Shape) (at n : Lengths) (lentPositions leftPositions lentNormals leftNormals lentTangents leftTangents : List Float) : Type 0 where
   pub positions : leftPositions ≡ paste lentPositions (at .positions) (joined (λ v. v) (s .positions)) (n .positions)
   pub normals : leftNormals ≡ paste lentNormals (at .normals) (joined (λ v. v) (s .normals)) (n .normals)
   pub tangents : leftTangents ≡ paste lentTangents (at .tangents) (joined (λ v. v) (s .tangents)) (n .tangents)
+
+abbrev pub PutsAt : Shape → Lengths → Lengths → Floats → Floats → Floats → Type 0
+PutsAt s at n positions normals tangents =
+    PutAt s at n (now (positions .entry)) (now (positions .exit)) (now (normals .entry)) (now (normals .exit))
+    (now (tangents .entry)) (now (tangents .exit))

@@ -15,7 +15,7 @@ ghost use lib.ListN.{length};
 ghost use Rattle.model.specs.Bake.{bakedPrimitive, outputOf};
 ghost use Rattle.tables.specs.Decoded.{primitiveOf};
 ghost use Rattle.checks.specs.Drawn.{lentAs};
-ghost use Rattle.shapes.specs.Rest.{paletteIn, primitivesIn, rowLengths, plusLengths, lengthsBelow, AtMost, RowFits, Drawable, PutAt, PutOut};
+ghost use Rattle.shapes.specs.Rest.{paletteIn, primitivesIn, rowLengths, plusLengths, lengthsBelow, AtMost, RowFits, Drawable, PutsAt, PutsOut};
 
 // Puts out a primitive of so many floats, from the given places on.
 fn put_primitive(
@@ -34,7 +34,7 @@ fn put_primitive(
     tangents: &mut [f32],
 )
     requires { ⌜ (n ≡ rowLengths row) × RowFits (now floats) row × AtMost (plusLengths at n) (length (now positions)) (length (now normals)) (length (now tangents)) × AtMost (plusLengths at n) 8589934592 8589934592 8589934592 ⌝ }
-    ensures { λ _. ⌜ PutAt (bakedPrimitive (world .m) (paletteIn «has_palette» (now (palette .entry))) (now (weights .entry)) (primitiveOf (lentAs (now (words .entry)) (now (floats .entry)) [] [] h) row)) at n (now (positions .entry)) (now (positions .exit)) (now (normals .entry)) (now (normals .exit)) (now (tangents .entry)) (now (tangents .exit)) ⌝ }
+    ensures { λ _. ⌜ PutsAt (bakedPrimitive (world .m) (paletteIn «has_palette» (now (palette .entry))) (now (weights .entry)) (primitiveOf (lentAs (now (words .entry)) (now (floats .entry)) [] [] h) row)) at n positions normals tangents ⌝ }
 {
     let a = at.positions;
     let b = at.normals;
@@ -73,7 +73,7 @@ pub fn write_mesh(
     tangents: &mut [f32],
 )
     requires { ⌜ Drawable (now words) (now floats) (h .meshes .primitives) part × AtMost (lengthsBelow (now words) (h .meshes .primitives) part (part .count)) (length (now positions)) (length (now normals)) (length (now tangents)) ⌝ }
-    ensures { λ _. ⌜ PutOut (outputOf (map (bakedPrimitive (world .m) (paletteIn «has_palette» (now (palette .entry))) (now (weights .entry))) (primitivesIn (lentAs (now (words .entry)) (now (floats .entry)) [] [] h) part))) (now (positions .entry)) (now (positions .exit)) (now (normals .entry)) (now (normals .exit)) (now (tangents .entry)) (now (tangents .exit)) ⌝ }
+    ensures { λ _. ⌜ PutsOut (outputOf (map (bakedPrimitive (world .m) (paletteIn «has_palette» (now (palette .entry))) (now (weights .entry))) (primitivesIn (lentAs (now (words .entry)) (now (floats .entry)) [] [] h) part))) positions normals tangents ⌝ }
 {
     let mut at = none();
     let mut k = 0usize;

@@ -5,13 +5,14 @@ use tables::Header;
 use tables::PrimitiveRow;
 ghost use mathlib.Core.Path.{_≡_};
 ghost use mathlib.Core.List.{List, []};
+ghost use Rattle.borrowed.specs.InPlace.{InPlace};
 ghost use Rattle.model.specs.Morph.{withTargets};
-ghost use Rattle.model.specs.Attributes.{attributesIn, shapeOf, Reshaped};
+ghost use Rattle.model.specs.Attributes.{shapeOf};
 ghost use Rattle.model.specs.Bake.{placedShape, bakedPrimitive};
-ghost use Rattle.tables.specs.Decoded.{spanIn, slotIn, primitiveOf};
+ghost use Rattle.tables.specs.Decoded.{slotIn, primitiveOf};
 ghost use Rattle.checks.specs.Drawn.{lentAs};
 ghost use Rattle.mesh.specs.Lent.{targetsIn};
-ghost use Rattle.shapes.specs.Rest.{slotFloats, Sized, AtRest, paletteIn};
+ghost use Rattle.shapes.specs.Rest.{attributesAt, Sized, ShapedAs, paletteIn};
 
 // With a palette, and joints and weights present: skinned; otherwise transformed.
 fn place_shape(
@@ -25,7 +26,7 @@ fn place_shape(
     normals: &mut [f32],
     tangents: &mut [f32],
 )
-    ensures { λ _. ⌜ Reshaped (placedShape (world .m) (paletteIn «has_palette» (now (palette .entry))) (slotIn (now (words .entry)) (row .joints) 4) (slotIn (now (floats .entry)) (row .weights) 4) (attributesIn (now (positions .entry)) (now (normals .entry)) (now (tangents .entry)))) (now (positions .entry)) (now (positions .exit)) (now (normals .entry)) (now (normals .exit)) (now (tangents .entry)) (now (tangents .exit)) ⌝ }
+    ensures { λ _. ⌜ InPlace (placedShape (world .m) (paletteIn «has_palette» (now (palette .entry))) (slotIn (now (words .entry)) (row .joints) 4) (slotIn (now (floats .entry)) (row .weights) 4)) positions normals tangents ⌝ }
 {
     let joints = row.joints;
     let weights = row.weights;
@@ -55,7 +56,7 @@ fn blend_primitive(
     tangents: &mut [f32],
 )
     requires { ⌜ Sized (now floats) row (now positions) (now normals) (now tangents) ⌝ }
-    ensures { λ _. ⌜ Reshaped (shapeOf (withTargets (targetsIn (now (words .entry)) (now (floats .entry)) h (row .targets)) (now (weights .entry)) (attributesIn (spanIn (now (floats .entry)) (row .positions) 3) (slotFloats (now (floats .entry)) (row .normals) 3) (slotFloats (now (floats .entry)) (row .tangents) 4)))) (spanIn (now (floats .entry)) (row .positions) 3) (now (positions .exit)) (slotFloats (now (floats .entry)) (row .normals) 3) (now (normals .exit)) (slotFloats (now (floats .entry)) (row .tangents) 4) (now (tangents .exit)) ⌝ }
+    ensures { λ _. ⌜ ShapedAs (shapeOf (withTargets (targetsIn (now (words .entry)) (now (floats .entry)) h (row .targets)) (now (weights .entry)) (attributesAt (now (floats .entry)) row))) (now (floats .entry)) row positions normals tangents ⌝ }
 {
     copy_rest(floats, row, positions, normals, tangents);
     mesh::morphed(
@@ -85,7 +86,7 @@ pub(crate) fn bake_primitive(
     tangents: &mut [f32],
 )
     requires { ⌜ Sized (now floats) row (now positions) (now normals) (now tangents) ⌝ }
-    ensures { λ _. ⌜ Reshaped (bakedPrimitive (world .m) (paletteIn «has_palette» (now (palette .entry))) (now (weights .entry)) (primitiveOf (lentAs (now (words .entry)) (now (floats .entry)) [] [] h) row)) (spanIn (now (floats .entry)) (row .positions) 3) (now (positions .exit)) (slotFloats (now (floats .entry)) (row .normals) 3) (now (normals .exit)) (slotFloats (now (floats .entry)) (row .tangents) 4) (now (tangents .exit)) ⌝ }
+    ensures { λ _. ⌜ ShapedAs (bakedPrimitive (world .m) (paletteIn «has_palette» (now (palette .entry))) (now (weights .entry)) (primitiveOf (lentAs (now (words .entry)) (now (floats .entry)) [] [] h) row)) (now (floats .entry)) row positions normals tangents ⌝ }
 {
     blend_primitive(words, floats, h, row, weights, positions, normals, tangents);
     place_shape(

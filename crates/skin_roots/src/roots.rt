@@ -11,7 +11,7 @@ ghost use lib.Dec.{ltb};
 ghost use lib.ListN.{length};
 ghost use Rattle.model.specs.Lists.{pick, every};
 ghost use Rattle.tables.specs.Tags.{namedOf};
-ghost use Rattle.checks.specs.Drawn.{lentAs};
+ghost use Rattle.checks.specs.Drawn.{sceneLent};
 ghost use Rattle.skin_roots.specs.Lines.{Inside, commonIn};
 ghost use Rattle.skin_roots.specs.Roots.{Rooted, RootAnswered};
 
@@ -86,7 +86,7 @@ pub fn skin_root(
     h: Header,
     skin: u32,
 ) -> Root
-    ensures { λ r. ⌜ RootAnswered (lentAs (now (words .entry)) (now (floats .entry)) (now («node_weights» .entry)) (now («mesh_weights» .entry)) h) skin r ⌝ }
+    ensures { λ r. ⌜ RootAnswered (sceneLent words floats «node_weights» «mesh_weights» h) skin r ⌝ }
 {
     let mut marks = [0u32; 1024];
     let number = graph::parents(words, floats, node_weights, mesh_weights, h, &mut marks);

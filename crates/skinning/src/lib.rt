@@ -8,9 +8,9 @@ ghost use mathlib.Core.Path.{_≡_};
 ghost use mathlib.Core.Bool.{false};
 ghost use Prim.Native.Nat.{_+_, _*_, _/_, _≤_, _<_};
 ghost use lib.ListN.{length};
+ghost use Rattle.borrowed.specs.InPlace.{InPlace};
 ghost use Rattle.model.specs.Lists.{rowsIn};
 ghost use Rattle.model.specs.Vertices.{skinned};
-ghost use Rattle.model.specs.Attributes.{attributesIn, Reshaped};
 ghost use Rattle.skinning.specs.Moved.{MovedFrom, FirstMoved};
 
 mod holding;
@@ -113,7 +113,7 @@ pub fn skinned(
     normals: &mut [f32],
     tangents: &mut [f32],
 )
-    ensures { λ _. ⌜ Reshaped (skinned (rowsIn 16 (now (palette .entry))) (rowsIn 4 (now (joints .entry))) (rowsIn 4 (now (weights .entry))) (attributesIn (now (positions .entry)) (now (normals .entry)) (now (tangents .entry)))) (now (positions .entry)) (now (positions .exit)) (now (normals .entry)) (now (normals .exit)) (now (tangents .entry)) (now (tangents .exit)) ⌝ }
+    ensures { λ _. ⌜ InPlace (skinned (rowsIn 16 (now (palette .entry))) (rowsIn 4 (now (joints .entry))) (rowsIn 4 (now (weights .entry)))) positions normals tangents ⌝ }
 {
     skin_blocks(palette, joints, weights, positions, normals, tangents);
     let n = positions.len() / 3;

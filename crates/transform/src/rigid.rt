@@ -6,9 +6,10 @@ use vertex_rows::flip_tangents;
 use vertex_rows::transform_positions;
 ghost use mathlib.Core.Path.{_≡_};
 ghost use mathlib.Core.List.{map};
+ghost use Rattle.borrowed.specs.InPlace.{InPlace};
 ghost use Rattle.model.specs.Lists.{rowsIn};
 ghost use Rattle.model.specs.Vertices.{turnedNormal, transformed};
-ghost use Rattle.model.specs.Attributes.{attributesIn, overRows, Reshaped};
+ghost use Rattle.model.specs.Attributes.{overRows};
 ghost use Rattle.scene.specs.Values.{mat3, linearOf};
 ghost use Rattle.vertex_rows.specs.Rows.{tangentBy};
 ghost use Rattle.transform.specs.Rigid.{TurnedAll};
@@ -44,7 +45,7 @@ fn transform_directions(m: Mat4, normals: &mut [f32], tangents: &mut [f32])
 // Moves all vertices by m: positions with the perspective division, normals by the normal matrix, tangents by the
 // linear part. An attribute that is absent has an empty slice.
 pub fn transformed(m: Mat4, positions: &mut [f32], normals: &mut [f32], tangents: &mut [f32])
-    ensures { λ _. ⌜ Reshaped (transformed (m .m) (attributesIn (now (positions .entry)) (now (normals .entry)) (now (tangents .entry)))) (now (positions .entry)) (now (positions .exit)) (now (normals .entry)) (now (normals .exit)) (now (tangents .entry)) (now (tangents .exit)) ⌝ }
+    ensures { λ _. ⌜ InPlace (transformed (m .m)) positions normals tangents ⌝ }
 {
     transform_positions(m, positions);
     transform_directions(m, normals, tangents);

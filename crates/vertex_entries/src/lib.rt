@@ -1,8 +1,8 @@
 // The C functions of vertices that other languages link (`rt staticlib vertex_entries`).
 use scene::Mat4;
+ghost use Rattle.borrowed.specs.InPlace.{InPlace};
 ghost use Rattle.model.specs.Lists.{rowsIn};
 ghost use Rattle.model.specs.Vertices.{transformed, skinned};
-ghost use Rattle.model.specs.Attributes.{attributesIn, Reshaped};
 
 // Moves all vertices by m.
 #[no_mangle]
@@ -12,7 +12,7 @@ pub extern "C" fn transformed_floats(
     normals: &mut [f32],
     tangents: &mut [f32],
 )
-    ensures { λ _. ⌜ Reshaped (transformed (now (m .entry)) (attributesIn (now (positions .entry)) (now (normals .entry)) (now (tangents .entry)))) (now (positions .entry)) (now (positions .exit)) (now (normals .entry)) (now (normals .exit)) (now (tangents .entry)) (now (tangents .exit)) ⌝ }
+    ensures { λ _. ⌜ InPlace (transformed (now (m .entry))) positions normals tangents ⌝ }
 {
     let m = *m;
     transform::transformed(Mat4 { m }, positions, normals, tangents);
@@ -28,7 +28,7 @@ pub extern "C" fn skinned_floats(
     normals: &mut [f32],
     tangents: &mut [f32],
 )
-    ensures { λ _. ⌜ Reshaped (skinned (rowsIn 16 (now (palette .entry))) (rowsIn 4 (now (joints .entry))) (rowsIn 4 (now (weights .entry))) (attributesIn (now (positions .entry)) (now (normals .entry)) (now (tangents .entry)))) (now (positions .entry)) (now (positions .exit)) (now (normals .entry)) (now (normals .exit)) (now (tangents .entry)) (now (tangents .exit)) ⌝ }
+    ensures { λ _. ⌜ InPlace (skinned (rowsIn 16 (now (palette .entry))) (rowsIn 4 (now (joints .entry))) (rowsIn 4 (now (weights .entry)))) positions normals tangents ⌝ }
 {
     skinning::skinned(palette, joints, weights, positions, normals, tangents);
 }

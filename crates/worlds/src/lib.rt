@@ -4,7 +4,7 @@ use tables::Header;
 ghost use mathlib.Core.Path.{_≡_};
 ghost use Prim.Native.Nat.{_+_, _*_, _≤_};
 ghost use lib.ListN.{length};
-ghost use Rattle.checks.specs.Drawn.{lentAs};
+ghost use Rattle.checks.specs.Drawn.{sceneLent};
 ghost use Rattle.placing.specs.Walk.{listingIn, entriesOf};
 ghost use Rattle.worlds.specs.Posed.{localIn};
 ghost use Rattle.worlds.specs.Placed.{Run, Placed};
@@ -69,7 +69,7 @@ pub fn posed_node_transforms(
     places: &mut [u32],
     worlds: &mut [f32],
 ) -> Answer
-    ensures { λ r. ⌜ Placed (lentAs (now (words .entry)) (now (floats .entry)) (now («node_weights» .entry)) (now («mesh_weights» .entry)) h) (now (marks .entry)) (now (slots .entry)) (now (walk .entry)) (now (walk .exit)) (now (places .entry)) (now (places .exit)) (now (worlds .entry)) (now (worlds .exit)) r ⌝ }
+    ensures { λ r. ⌜ Placed (sceneLent words floats «node_weights» «mesh_weights» h) (now (marks .entry)) (now (slots .entry)) (now (walk .entry)) (now (walk .exit)) (now (places .entry)) (now (places .exit)) (now (worlds .entry)) (now (worlds .exit)) r ⌝ }
 {
     let number = numbers::place_number(
         words,

@@ -4,7 +4,7 @@ ghost use mathlib.Core.Path.{_≡_};
 ghost use Prim.Native.Nat.{_≤_};
 ghost use Rattle.model.specs.Refusals.{placeNumber};
 ghost use Rattle.tables.specs.Decoded.{sceneOf};
-ghost use Rattle.checks.specs.Drawn.{lentAs, tablesNumber};
+ghost use Rattle.checks.specs.Drawn.{sceneLent, tablesNumber};
 ghost use Rattle.worlds.specs.Rooms.{shortIn};
 
 // Whether the walk room or the slots are too few: a stage, for tables that draw no number.
@@ -35,7 +35,7 @@ pub(crate) fn place_number(
     poses: usize,
     worlds: usize,
 ) -> u32
-    ensures { λ r. ⌜ r ≡ placeNumber (tablesNumber (lentAs (now (words .entry)) (now (floats .entry)) (now («node_weights» .entry)) (now («mesh_weights» .entry)) h)) (sceneOf (lentAs (now (words .entry)) (now (floats .entry)) (now («node_weights» .entry)) (now («mesh_weights» .entry)) h)) (record { walkRoom = walk; poseSlots = poses; worldSlots = worlds }) ⌝ }
+    ensures { λ r. ⌜ r ≡ placeNumber (tablesNumber (sceneLent words floats «node_weights» «mesh_weights» h)) (sceneOf (sceneLent words floats «node_weights» «mesh_weights» h)) (record { walkRoom = walk; poseSlots = poses; worldSlots = worlds }) ⌝ }
 {
     let drawn = checks::tables_number(words, floats, node_weights, mesh_weights, h);
     if drawn != 0 {

@@ -1,14 +1,13 @@
 //! A scene in bytes, and what the comparisons of `place` and `bake` on bytes
 //! share.
 
-use crate::port::{ByteTables, Header, Tables};
+use crate::port::{ByteTables, Header, Part, Tables};
 
 /// The most of `words`, and of each slice of floats, that the port decodes.
 const WORD_LIMIT: usize = 32_768;
 const FLOAT_LIMIT: usize = 65_536;
 /// The most words of walk room that are used.
 pub const WALK_LIMIT: usize = 18_432;
-pub const OVER_LIMIT: u32 = 2;
 pub const LENT_BYTE: u8 = 0xa5;
 
 pub fn is_over(lent: &Tables) -> bool {
@@ -18,7 +17,45 @@ pub fn is_over(lent: &Tables) -> bool {
             .any(|floats| floats.len() > FLOAT_LIMIT)
 }
 
-/// Each slice of the scene just short enough, and not.
+/// Where a slice has more than the port decodes: 1 if a table that the header
+/// names leaves the words, otherwise 2. Where none has: 0.
+pub fn over_number(lent: &Tables) -> u32 {
+    let mut header = lent.header;
+    let fits = tables(&mut header).into_iter().all(|(part, width)| {
+        let words = part.count.checked_mul(width);
+        let end = words.and_then(|words| words.checked_add(part.at));
+        end.is_some_and(|end| end <= lent.words.len())
+    });
+    match (is_over(lent), fits) {
+        (false, _) => 0,
+        (true, false) => 1,
+        (true, true) => 2,
+    }
+}
+
+/// The tables that a header names, with the words of a record.
+fn tables(header: &mut Header) -> [(&mut Part, usize); 9] {
+    let Header {
+        graph,
+        channels,
+        meshes,
+        skins,
+    } = header;
+    [
+        (&mut graph.nodes, 16),
+        (&mut graph.roots, 1),
+        (channels, 8),
+        (&mut meshes.meshes, 4),
+        (&mut meshes.primitives, 16),
+        (&mut meshes.targets, 12),
+        (&mut meshes.in_betweens, 8),
+        (&mut skins.skins, 4),
+        (&mut skins.skeletons, 4),
+    ]
+}
+
+/// Each slice of the scene just short enough, and not; and of words that are
+/// not, each table one word past their end.
 pub fn at_limits(lent: Tables, mut count: impl FnMut(Tables)) {
     let mut words = lent.words.to_vec();
     let mut floats = lent.floats.to_vec();
@@ -34,6 +71,17 @@ pub fn at_limits(lent: Tables, mut count: impl FnMut(Tables)) {
         });
         count(Tables {
             mesh_weights: floats,
+            ..lent
+        });
+    }
+    let words = &words;
+    for k in 0..tables(&mut lent.header.clone()).len() {
+        let mut header = lent.header;
+        let (part, width) = &mut tables(&mut header)[k];
+        part.at = words.len() + 1 - part.count * *width;
+        count(Tables {
+            words,
+            header,
             ..lent
         });
     }

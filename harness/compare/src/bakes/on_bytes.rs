@@ -9,7 +9,7 @@ use super::{
     NUMBERS,
 };
 use crate::{
-    in_bytes::{at_limits, is_over, put, Encoded, LENT_BYTE, OVER_LIMIT, WALK_LIMIT},
+    in_bytes::{at_limits, is_over, over_number, put, Encoded, LENT_BYTE, WALK_LIMIT},
     port::{self, BakeRoom, Baked, ByteRoom},
     rng::Rng,
     tally::{one_nan_bits, Met, Tally},
@@ -120,7 +120,7 @@ fn lent_bytes(lens: Lens, odd: Lens) -> ByteRoom {
 fn of_floats(case: &Case, node: u32, lens: Lens, mut bytes: ByteRoom) -> (Baked, ByteRoom) {
     if is_over(&case.lent) {
         let told = Baked {
-            number: OVER_LIMIT,
+            number: over_number(&case.lent),
             ..Baked::default()
         };
         return (told, bytes);

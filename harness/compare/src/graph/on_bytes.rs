@@ -7,7 +7,7 @@
 use super::case::{Case, Room, LENT};
 use crate::{
     in_bytes::{
-        at_limits, bits, encoded, is_over, put, Encoded, LENT_BYTE, OVER_LIMIT, WALK_LIMIT,
+        at_limits, bits, encoded, is_over, over_number, put, Encoded, LENT_BYTE, WALK_LIMIT,
     },
     port::{self, Placed},
     rng::Rng,
@@ -89,7 +89,7 @@ fn of_floats(case: &Case, lens: [usize; LENT.len()], rooms: [Vec<u8>; 3]) -> Ans
     };
     if is_over(&case.lent) {
         answer.told = Placed {
-            number: OVER_LIMIT,
+            number: over_number(&case.lent),
             taken: 0,
         };
     } else if told.number == 0 {

@@ -6,7 +6,7 @@ use Rattle.model.specs.Lists.{isSome}
 use Rattle.tables.specs.Records.{nodeRow}
 use Rattle.checks.specs.Drawn.{lentAs}
 use Rattle.bake_stages.specs.Skinned.{worldFrom, paletteFrom}
-use Rattle.bake_stages.specs.Late.{lateNumber}
+use Rattle.bake_stages.specs.Numbers.{lateNumber}
 use Rattle.bake_stages.proofs.Placed.{world-there}
 use Rattle.bake_stages.proofs.numbers.late_number.Statement.{statement}
 use Rattle.bake_stages.proofs.numbers.late_number.Tie as tie

@@ -7,7 +7,7 @@ use Rattle.byte_bake.proofs.scenes.bake.Statement.{statement}
 use Rattle.byte_bake.proofs.scenes.bake.Tie as tie
 
 returns : tie.Need-returns
-returns c = refused-over _ _ _ _ _ (drawn-over _ _ _ _ _ (sym (c .before .is-over .ensures) ∙ c .if1 .taken))
+returns c = refused-over _ _ _ _ _ _ (drawn-over _ _ _ _ _ _ (c .before .over-number .ensures) (c .if1 .taken)) (c .if1 .taken)
 
 same-length : tie.Need-same-length
 same-length c = c .before .before .before .before .before .before .before .before .before .before .before .before .before .before .before .before .bake-decoded .kept .1 .1 .1 .1 .1 .1 .1 .0
@@ -35,7 +35,7 @@ same-length-8 c = c .before .before .before .before .before .before .before .bef
 
 returns-2 : tie.Need-returns-2
 returns-2 c =
-    same-drawn _ _ _ _ (decoded-whole _ _ _ _ _ (sym (c .before .before .before .before .before .before .before .before .before .before .before .before .before .before .before .before .before .before .before .before .before .before .before .before .before .before .before .is-over .ensures) ∙ c .before .before .before .before .before .before .before .before .before .before .before .before .before .before .before .before .before .before .before .before .before .before .before .before .before .before .if1 .left)) (c .before .before .before .before .before .before .before .before .before .before .before .before .before .before .before .before .before .before .before .before .before .before .before .before .before .from-bits .ensures) (c .before .before .before .before .before .before .before .before .before .before .before .before .before .before .before .before .bake-decoded .ensures)
+    same-drawn _ _ _ _ (decoded-whole _ _ _ _ _ (sym (c .before .before .before .before .before .before .before .before .before .before .before .before .before .before .before .before .before .before .before .before .before .before .before .before .before .before .before .over-number .ensures) ∙ c .before .before .before .before .before .before .before .before .before .before .before .before .before .before .before .before .before .before .before .before .before .before .before .before .before .before .if1 .left)) (c .before .before .before .before .before .before .before .before .before .before .before .before .before .before .before .before .before .before .before .before .before .before .before .before .before .from-bits .ensures) (c .before .before .before .before .before .before .before .before .before .before .before .before .before .before .before .before .bake-decoded .ensures)
 
 pub bake-spec : {M : Type 1} → statement M
 bake-spec =

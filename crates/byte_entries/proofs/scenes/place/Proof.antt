@@ -7,11 +7,11 @@ use Rattle.byte_entries.proofs.scenes.place.Statement.{statement}
 use Rattle.byte_entries.proofs.scenes.place.Tie as tie
 
 returns : tie.Need-returns
-returns c = refused-over _ _ _ _ _ _ _ (drawn-over _ _ _ _ _ (sym (c .before .is-over .ensures) ∙ c .if1 .taken))
+returns c = refused-over _ _ _ _ _ _ _ _ (drawn-over _ _ _ _ _ _ (c .before .over-number .ensures) (c .if1 .taken)) (c .if1 .taken)
 
 returns-2 : tie.Need-returns-2
 returns-2 c =
-    same-drawn _ _ _ _ _ _ _ _ _ (decoded-whole _ _ _ _ _ (sym (c .before .before .before .before .before .before .before .before .before .before .before .is-over .ensures) ∙ c .before .before .before .before .before .before .before .before .before .before .if1 .left)) (c .before .before .before .before .before .before .place-decoded .ensures)
+    same-drawn _ _ _ _ _ _ _ _ _ (decoded-whole _ _ _ _ _ (sym (c .before .before .before .before .before .before .before .before .before .before .before .over-number .ensures) ∙ c .before .before .before .before .before .before .before .before .before .before .if1 .left)) (c .before .before .before .before .before .before .place-decoded .ensures)
 
 pub place-spec : {M : Type 1} → statement M
 place-spec =
