@@ -24,8 +24,8 @@ Root skin_root(const uint32_t *words, size_t words_len, const float *floats, siz
                const float *node_weights, size_t node_weights_len, const float *mesh_weights, size_t mesh_weights_len,
                Header header, uint32_t skin);
 
-/* The weights that a node's mesh is blended with, copied to the start of `out` as far as there is room. Answers 1, 2, 7 or
-   0, and how many floats were copied: where the number is not 0, none. */
+/* The weights that a node's mesh is blended with, copied to the start of `out`. Answers 1, 2, 7, 10 or 0, and how many
+   floats were copied; where the number is not 0, `out` is as lent. */
 Told effective_weights_floats(const uint32_t *words, size_t words_len, const float *floats, size_t floats_len,
                               const float *node_weights, size_t node_weights_len, const float *mesh_weights,
                               size_t mesh_weights_len, Header header, uint32_t node, float *out, size_t out_len);

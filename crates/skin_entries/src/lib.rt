@@ -50,8 +50,8 @@ pub extern "C" fn skin_root(
     skin_roots::skin_root(words, floats, node_weights, mesh_weights, header, skin)
 }
 
-// The weights that a node's mesh is blended with, copied to the start of `out` as far as there is room. Answers 1, 2, 7 or
-// 0, and the floats copied.
+// Copies the weights that a node's mesh is blended with to the start of `out`. Answers 1, 2, 7, 10 or 0, and how many
+// floats were copied.
 #[no_mangle]
 pub extern "C" fn effective_weights_floats<'a>(
     words: &[u32],
@@ -73,6 +73,9 @@ pub extern "C" fn effective_weights_floats<'a>(
         header,
         node,
     );
-    let length = wire::copy_floats(weights, out);
-    Answer { number, length }
+    let copied = outputs::copy_out(number, weights, out);
+    Answer {
+        number: copied.number,
+        length: copied.count,
+    }
 }

@@ -97,7 +97,7 @@ impl Comparison {
         assert_eq!(case.drawn, 0, "a scene inside the limits");
         for node in ids(scene.nodes.len(), rng) {
             self.count_palette(&case, node, rng);
-            self.count_weights(&case, node, rng);
+            self.count_weights(&case, node);
         }
         for skin in ids(scene.skins.len(), rng) {
             self.count_root(&case, skin);
@@ -163,9 +163,16 @@ impl Comparison {
         });
     }
 
-    fn count_weights(&mut self, case: &Case, node: u32, rng: &mut Rng) {
-        let weights = case.rust_weights(node).map_or(0, <[f32]>::len);
-        let room = rng.below(weights as u32 + 3) as usize;
+    /// With an output that is longer, just long enough, one float short, and
+    /// empty.
+    fn count_weights(&mut self, case: &Case, node: u32) {
+        let len = case.rust_weights(node).map_or(0, <[f32]>::len);
+        for room in [len + 2, len, len.saturating_sub(1), 0] {
+            self.count_weights_with(case, node, room);
+        }
+    }
+
+    fn count_weights_with(&mut self, case: &Case, node: u32, room: usize) {
         let met = sorts::weights(case, node, room);
         self.weight_sorts.count_all(&met);
         let (rust, port) = (case.expected_weights(node, room), case.weights(node, room));

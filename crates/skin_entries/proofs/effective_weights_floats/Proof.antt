@@ -1,11 +1,14 @@
 -- `skin_entries::effective_weights_floats` meets its contract. Assumes nothing.
 use borrow.Author.Needs.{needs}
-use Rattle.skin_entries.proofs.Weighing.{copied-weights}
+use Rattle.outputs.proofs.Copying.{copied-as}
 use Rattle.skin_entries.proofs.effective_weights_floats.Statement.{statement}
 use Rattle.skin_entries.proofs.effective_weights_floats.Tie as tie
 
 returns : tie.Need-returns
-returns c = copied-weights _ _ _ _ _ _ _ (c .before .before .before .before .before .weights-number .ensures) (c .before .before .before .before .effective-morph-weights .ensures) (c .before .before .copy-floats .ensures)
+returns c =
+    let s = c .before .before in
+    copied-as _ _ _ _ _ _ _ _ (s .before .before .before .weights-number .ensures)
+    (s .before .before .effective-morph-weights .ensures) (s .copy-out .ensures)
 
 pub effective-weights-floats-spec : {M : Type 1} → statement M
 effective-weights-floats-spec =

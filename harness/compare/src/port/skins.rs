@@ -116,8 +116,8 @@ pub fn skin_root(lent: &Tables, skin: u32) -> Root {
     }
 }
 
-/// The weights of a node's mesh, copied to the start of `out` as far as there is
-/// room. Answers 1, 2, 7 or 0.
+/// Copies the weights of a node's mesh to the start of `out`. Answers 1, 2, 7, 10
+/// or 0.
 pub fn effective_weights(lent: &Tables, node: u32, out: &mut [f32]) -> Told {
     // SAFETY: see above.
     unsafe {

@@ -105,7 +105,8 @@ impl<'a> Case<'a> {
         match self.rust_weights(node) {
             _ if self.drawn != 0 => left(self.drawn, &[], room),
             None => left(NO_SUCH_NODE, &[], room),
-            Some(weights) => left(0, &weights[..weights.len().min(room)], room),
+            Some(weights) if room < weights.len() => left(SHORT_OUTPUT, &[], room),
+            Some(weights) => left(0, weights, room),
         }
     }
 

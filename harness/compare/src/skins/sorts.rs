@@ -120,7 +120,7 @@ pub fn root(case: &Case, skin: u32) -> [bool; ROOTS.len()] {
     ]
 }
 
-pub const WEIGHTS: [&str; 8] = [
+pub const WEIGHTS: [&str; 11] = [
     "bad node ids",
     "no mesh",
     "bad mesh ids",
@@ -128,7 +128,10 @@ pub const WEIGHTS: [&str; 8] = [
     "the mesh's, the node's absent",
     "the mesh's, the node's empty",
     "none of either",
-    "cut off",
+    "output one short",
+    "empty output",
+    "output just long enough",
+    "refused with an empty output",
 ];
 
 /// The words of a node's record, and which of them marks its weights.
@@ -146,6 +149,7 @@ pub fn weights(case: &Case, id: u32, room: usize) -> [bool; WEIGHTS.len()] {
         case.lent.words[record + WEIGHTS_MARK] == 1
     };
     let is_of_mesh = rust.is_some() && !is_own;
+    let len = rust.map(<[f32]>::len);
     [
         node.is_none(),
         node.is_some() && mesh_id.is_none(),
@@ -153,7 +157,10 @@ pub fn weights(case: &Case, id: u32, room: usize) -> [bool; WEIGHTS.len()] {
         rust.is_some() && is_own,
         is_of_mesh && !is_marked(),
         is_of_mesh && is_marked(),
-        rust.is_some_and(<[f32]>::is_empty),
-        rust.is_some_and(|weights| weights.len() > room),
+        len == Some(0),
+        len == Some(room + 1),
+        len > Some(0) && room == 0,
+        len > Some(0) && len == Some(room),
+        rust.is_none() && room == 0,
     ]
 }

@@ -1,0 +1,27 @@
+// Results that are copied into an output.
+ghost use Rattle.outputs.specs.Output.{CopiedOut};
+
+// A refusal number, or 0, and how many floats were copied.
+pub struct Copied {
+    pub number: u32,
+    pub count: usize,
+}
+
+// Copies a result to the start of `out`, where the number of the call for it is 0; without room for all of it the
+// number is 10. Where a number is answered, nothing is changed.
+pub fn copy_out(number: u32, result: &[f32], out: &mut [f32]) -> Copied
+    ensures { λ r. ⌜ CopiedOut number (now (result .entry)) (now (out .entry)) (now (out .exit))
+        (r .number) (r .count) ⌝ }
+{
+    if number != 0 {
+        return Copied { number, count: 0 };
+    }
+    if out.len() < result.len() {
+        return Copied {
+            number: 10,
+            count: 0,
+        };
+    }
+    let count = wire::copy_floats(result, out);
+    Copied { number: 0, count }
+}
