@@ -38,9 +38,9 @@ uint32_t scene_mat4_affine_inverse(const float m[16], float out[16]);
 uint32_t scene_normal_matrix(const float m[16], float out[9]);
 void scene_from_matrix(const float m[16], float t[3], float r[4], float s[3]);
 
-/* A track lies in a table of floats: kind 0 for Vec3, 1 for Quat, otherwise scalar; interpolation 0 for Step, 1 for
-   Linear, otherwise CubicSpline; where its keys start and how many there are; the same of its values, which are counted by
-   the kind's entries. */
+/* A track lies in a table of floats: kind 0 for Vec3, 1 for Quat, 2 for scalar; interpolation 0 for Step, 1 for Linear,
+   2 for CubicSpline; where its keys start and how many there are; the same of its values, which are counted by the
+   kind's entries. Any other kind or interpolation draws 2. */
 
 /* A refusal number, or 0, and how many floats were written to `out`. */
 typedef struct {
@@ -57,11 +57,12 @@ Told sample_floats(const float *floats, size_t floats_len, uint32_t kind, uint32
 Told sample(const uint8_t *table, size_t table_len, uint32_t kind, uint32_t interpolation, size_t keys_at,
             size_t keys_count, size_t values_at, size_t values_count, uint32_t time, uint8_t value[16], uint8_t *out,
             size_t out_len);
-/* The weights of frame k or, where the mark `rows` is not 0, all three rows, copied as far as there is room. */
+/* The weights of frame k or, where the mark `rows` is not 0, all three rows, copied to the start of `out`. Answers 1, 2,
+   4, 10, 12 or 0, and how many floats were copied; where the number is not 0, `out` is as lent. */
 Told frame_floats(const float *floats, size_t floats_len, uint32_t kind, uint32_t interpolation, size_t keys_at,
                   size_t keys_count, size_t values_at, size_t values_count, uint32_t rows, size_t k, float *out,
                   size_t out_len);
-/* The weights per frame of an even scalar track, and 0 of any other. */
+/* The weights per frame of an even scalar track, and 0 of any other, or where the track draws 1 or 2. */
 size_t stride_floats(const float *floats, size_t floats_len, uint32_t kind, uint32_t interpolation, size_t keys_at,
                      size_t keys_count, size_t values_at, size_t values_count);
 /* 1 where every key is finite and above the one before, otherwise 0. */

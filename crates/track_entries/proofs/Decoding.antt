@@ -21,6 +21,7 @@ use Rattle.animation.specs.declared.Track.{Track}
 use Rattle.animation.specs.declared.SampledValue.the-variants as sampledValue
 use Rattle.track_entries.specs.Tracks.{sampledIn}
 use Rattle.track_entries.specs.Bytes.{decodedLimit, decodedNumber, sampledInBytes}
+use Rattle.track_entries.proofs.Naming.{Draws}
 
 module _ (floats : List Float) (t : Track) where
   number-within : length floats ≤ decodedLimit → tableNumber floats t ≡ decodedNumber floats t
@@ -46,7 +47,7 @@ module _ (floats : List Float) (t : Track) where
       go true true o p e = absurd (omega arith)
       go false b o p e = absurd (omega arith)
 
-refused-with : (tr : scene.Track) (time : Float) (lent : List Float) (g n : ℕ) → g ≡ suc n
+pub refused-with : (tr : scene.Track) (time : Float) (lent : List Float) (g n : ℕ) → g ≡ suc n
     → answerOf (sampledValue.Refused (suc n)) lent ≡ sampled g tr time lent
 unfolding sampled
 refused-with tr time lent g n e =
@@ -56,6 +57,17 @@ refused-with tr time lent g n e =
 pub sampled-of : (part floats : List Float) (t : Track) (time : Float) (lent : List Float) (s : Sampled) → part ≡ floats
     → s ≡ sampledIn part t time lent → s ≡ sampledIn floats t time lent
 sampled-of part floats t time lent s e p = p ∙ ap (λ (l : List Float). sampledIn l t time lent) e
+
+pub decoded-draws : (table : List ℕ) (t : Track)
+    → Draws (keysFit (length table / 4) t && valuesFit (length table / 4) t) (decodedNumber (floatsIn table) t)
+unfolding decodedNumber
+decoded-draws table t =
+    let floats = floatsIn table in
+    let over = ltb decodedLimit (length floats) || trackOverLimit (trackIn floats t) in
+    record {
+      over = over;
+      number = ap (λ (n : ℕ). pick (keysFit n t && valuesFit n t) (pick over 2 0) 1) (count (ofBits binary32) table);
+    }
 
 -- ---- a table by its length
 module _ (table : List ℕ) (t : Track) (time : Float) (lent : List Float) where

@@ -1,5 +1,6 @@
 -- What is written of an answer to lent bytes. Assumes nothing.
 use mathlib.Core.Path.{_≡_, refl, sym, ap, _∙_, subst}
+use mathlib.Core.Bool.{Bool, true, false, not, _&&_}
 use mathlib.Core.List.{List, _++_}
 use Prim.Native.Nat.{ℕ, _*_, _/_, _≤_, min}
 use native.Mathlib.Omega.{arith}
@@ -7,7 +8,7 @@ use lib.Ieee.{Float, binary32, ofBits}
 use lib.ListN.{length, take, drop}
 use lib.Seq.{length-take-le}
 use Rattle.model.specs.Limits.{weightLimit}
-use Rattle.model.specs.Calls.{Sampled}
+use Rattle.model.specs.Calls.{Sampled, sampled}
 use Rattle.wire.specs.Bytes.{floatsIn, bytesOf, writtenAs, WroteBytes}
 use Rattle.wire.proofs.Reading.{count}
 use Rattle.wire.proofs.Writing.{all-written}
@@ -15,13 +16,17 @@ use Rattle.scene.specs.Values.{vec3, quat}
 use Rattle.scene.specs.declared.Vec3.{Vec3}
 use Rattle.scene.specs.declared.Quat.{Quat}
 use Rattle.animation.specs.Values.{answerOf}
-use Rattle.animation.specs.Tracks.{trackIn}
+use Rattle.animation.specs.Tracks.{keysFit, valuesFit, trackIn}
 use Rattle.animation.specs.declared.Track.{Track}
 use Rattle.animation.specs.declared.SampledValue.{SampledValue}
 use Rattle.animation.specs.declared.SampledValue.the-variants as sampledValue
+use Rattle.tables.specs.declared.ChannelRow.{ChannelRow}
+use Rattle.tables.specs.Tags.{trackFor}
+use Rattle.row_checks.specs.Bounds.{tagsKnown}
 use Rattle.track_entries.specs.declared.tracks.Told.{Told}
-use Rattle.track_entries.specs.Bytes.{decodedNumber, sampledInBytes, DeliveredBytes}
-use Rattle.track_entries.proofs.Decoding.{none-over}
+use Rattle.track_entries.specs.Bytes.{decodedNumber, sampledInBytes, sampledForBytes, DeliveredBytes}
+use Rattle.track_entries.proofs.Decoding.{none-over, refused-with, decoded-draws}
+use Rattle.track_entries.proofs.Naming.{by-name, without-name}
 use Rattle.track_entries.proofs.Rooms.{Alike, weights-fit, sampled-alike}
 
 -- ---- an answer, by its variant
@@ -106,10 +111,26 @@ module _ (table : List ℕ) (t : Track) (time : Float) (weights : List Float) (l
       (none-over (floatsIn table) t) (room ∙ ap (λ (n : ℕ). min n weightLimit) (sym (count (ofBits binary32) lentOut))))
       (subst (λ (s : Sampled). DeliveredBytes s lentValue leftValue lentOut leftOut told) e d)
 
--- a track and a time that were handed in as numbers
-pub as-handed : (table : List ℕ) (t u : Track) (time at : Float) (lentValue leftValue lentOut leftOut : List ℕ) (told : Told)
-    → t ≡ u → time ≡ at
-    → DeliveredBytes (sampledInBytes table t time (floatsIn lentOut)) lentValue leftValue lentOut leftOut told
-    → DeliveredBytes (sampledInBytes table u at (floatsIn lentOut)) lentValue leftValue lentOut leftOut told
-as-handed table t u time at lentValue leftValue lentOut leftOut told e f d =
-    subst (λ (s : Sampled). DeliveredBytes s lentValue leftValue lentOut leftOut told) (λ j. sampledInBytes table (e j) (f j) (floatsIn lentOut)) d
+-- a track that was handed in as u, and is `row`, at a time that was handed in as a bit pattern
+module _ (table : List ℕ) (row u : ChannelRow) (e : row ≡ u) (at : Float) (lentValue lentOut : List ℕ) where
+  abbrev inside : Bool
+  inside = keysFit (length table / 4) (trackFor row) && valuesFit (length table / 4) (trackFor row)
+
+  pub as-handed : (not (tagsKnown row) && inside) ≡ false → (t : Track) → t ≡ trackFor row → (time : Float) → time ≡ at
+      → (leftValue leftOut : List ℕ) (told : Told)
+      → DeliveredBytes (sampledInBytes table t time (floatsIn lentOut)) lentValue leftValue lentOut leftOut told
+      → DeliveredBytes (sampledForBytes table u at (floatsIn lentOut)) lentValue leftValue lentOut leftOut told
+  as-handed h t f time p leftValue leftOut told d =
+      subst (λ (s : Sampled). DeliveredBytes s lentValue leftValue lentOut leftOut told)
+      (by-name (λ g tr. sampled g tr at (floatsIn lentOut)) (floatsIn table) (decodedNumber (floatsIn table)) row u e
+      inside (decoded-draws table (trackFor row)) h t f _ (λ j. sampledInBytes table t (p j) (floatsIn lentOut)))
+      d
+
+  pub not-handed : (not (tagsKnown row) && inside) ≡ true
+      → DeliveredBytes (sampledForBytes table u at (floatsIn lentOut)) lentValue lentValue lentOut lentOut
+      (record { number = 2; count = 0 })
+  not-handed h =
+      subst (λ (s : Sampled). DeliveredBytes s lentValue lentValue lentOut lentOut (record { number = 2; count = 0 }))
+      (without-name (λ g tr. sampled g tr at (floatsIn lentOut)) (floatsIn table) (decodedNumber (floatsIn table))
+      row u e inside (decoded-draws table (trackFor row)) h _ (λ tr. refused-with tr at (floatsIn lentOut) 2 1 refl))
+      (wrote-nothing (floatsIn lentOut) (sampledValue.Refused 2) lentValue lentOut 2 refl)

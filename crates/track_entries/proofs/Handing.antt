@@ -1,21 +1,31 @@
 -- Tracks that are handed in by numbers, and what the calls on them answer. Assumes nothing.
-use mathlib.Core.Path.{_≡_, refl, sym, ap, _∙_, subst}
-use mathlib.Core.Bool.{Bool}
+use mathlib.Core.Path.{_≡_, refl, sym, ap, _∙_}
+use mathlib.Core.Bool.{Bool, true, false, not, _&&_}
 use mathlib.Core.List.{List, [], _∷_, _++_}
 use Prim.Native.Nat.{ℕ}
+use native.Mathlib.Omega.{arith}
 use lib.Ieee.{Float, nan}
 use lib.ListN.{length, set, drop}
-use Rattle.model.specs.Calls.{Sampled}
+use Rattle.model.specs.Scene as scene
+use Rattle.model.specs.Refusals.{frameNumber}
+use Rattle.model.specs.Calls.{Sampled, frameOf, strideOf}
 use Rattle.model.proofs.ListLaws.{entriesFrom, by-entries}
+use Rattle.model.proofs.Numbers.{frame-drawn}
+use Rattle.outputs.specs.Output.{CopiedOut}
+use Rattle.outputs.proofs.Copying.{refused, copied-as}
 use Rattle.scene.specs.Values.{vec3, quat}
 use Rattle.scene.specs.declared.Vec3.{Vec3}
 use Rattle.scene.specs.declared.Quat.{Quat}
 use Rattle.animation.specs.Values.{answerOf}
+use Rattle.animation.specs.Tracks.{keysFit, valuesFit, trackIn, tableNumber}
 use Rattle.animation.specs.declared.Track.{Track}
 use Rattle.animation.specs.declared.SampledValue.{SampledValue}
 use Rattle.animation.specs.declared.SampledValue.the-variants as sampledValue
-use Rattle.track_entries.specs.Tracks.{sampledIn, frameNumberIn, frameIn, frameStrideIn, Delivered, Copied}
-use Rattle.model.specs.Written.{Wrote}
+use Rattle.tables.specs.declared.ChannelRow.{ChannelRow}
+use Rattle.tables.specs.Tags.{trackFor}
+use Rattle.row_checks.specs.Bounds.{tagsKnown}
+use Rattle.track_entries.specs.Tracks.{numberFor, sampledFor, frameIn, frameFor, Delivered, Framed}
+use Rattle.track_entries.proofs.Naming.{table-draws, by-name, without-name}
 
 -- ---- an array of four with a value at its start
 module _ (lent : List Float) (h : length lent ≡ 4) (x y z : Float) where
@@ -51,16 +61,44 @@ module _ (s : Sampled) (lent slice : List Float) (a : SampledValue) (e : answerO
   pub left-refused : (n : ℕ) → a ≡ sampledValue.Refused n → Delivered s lent lent slice (record { number = n; count = 0 })
   left-refused n f = left (sampledValue.Refused n) lent f refl
 
--- ---- a track that was handed in as t, and is u
-module _ (floats : List Float) (t u : Track) (e : t ≡ u) where
-  pub sampled-alike : (time : Float) (lent : List Float) (s : Sampled) → s ≡ sampledIn floats t time lent → s ≡ sampledIn floats u time lent
-  sampled-alike time lent s p = p ∙ (λ j. sampledIn floats (e j) time lent)
+-- ---- the answers
 
-  pub stride-alike : (n : ℕ) → n ≡ frameStrideIn floats t → n ≡ frameStrideIn floats u
-  stride-alike n p = p ∙ (λ j. frameStrideIn floats (e j))
+pub sampled-alike : (floats : List Float) (row u : ChannelRow) → row ≡ u → (time : Float) (lent : List Float)
+    → (s : Sampled) → s ≡ sampledFor floats row time lent → s ≡ sampledFor floats u time lent
+sampled-alike floats row u e time lent s p = p ∙ ap (λ (r : ChannelRow). sampledFor floats r time lent) e
 
-  pub copied-part : (r q : Bool) (k number : ℕ) (part lent left : List Float) (count : ℕ) → r ≡ q → number ≡ frameNumberIn floats t r k → part ≡ frameIn floats t r k → Wrote part lent left count → Copied (frameNumberIn floats u q k) (frameIn floats u q k) lent left (record { number = number; count = count })
-  copied-part r q k number part lent left count m n p w = record {
-    numbered = n ∙ (λ j. frameNumberIn floats (e j) (m j) k);
-    copied = subst (λ (l : List Float). Wrote l lent left count) (p ∙ (λ j. frameIn floats (e j) (m j) k)) w;
-  }
+pub no-stride : (tr : scene.Track) → 0 ≡ strideOf 2 tr
+unfolding strideOf
+no-stride tr = refl
+
+-- a frame of a track that was handed in as u, and is `row`
+module _ (floats : List Float) (row u : ChannelRow) (e : row ≡ u) (q : Bool) (k : ℕ) (lent : List Float) where
+  abbrev inside : Bool
+  inside = keysFit (length floats) (trackFor row) && valuesFit (length floats) (trackFor row)
+
+  -- of the number and of the floats
+  named : {X : Type 0} (call : ℕ → scene.Track → X) → (not (tagsKnown row) && inside) ≡ false → (t : Track)
+      → t ≡ trackFor row → (x : X) → x ≡ call (tableNumber floats t) (trackIn floats t)
+      → x ≡ call (numberFor floats u) (trackIn floats (trackFor u))
+  named call = by-name call floats (tableNumber floats) row u e inside (table-draws floats (trackFor row))
+
+  pub no-frame : (not (tagsKnown row) && inside) ≡ true
+      → Framed floats u q k lent lent (record { number = 2; count = 0 })
+  no-frame h =
+      copied-as 2 _ (frameFor floats u q k) _ lent lent 2 0
+      (without-name (λ g tr. frameNumber g tr q k) floats (tableNumber floats) row u e inside
+      (table-draws floats (trackFor row)) h 2 (λ tr. sym (frame-drawn tr q k 2 (omega arith))))
+      refl
+      (refused (frameFor floats u q k) lent 2 (λ z. omega arith))
+
+  pub framed : (not (tagsKnown row) && inside) ≡ false → (t : Track) → t ≡ trackFor row → (r : Bool) → r ≡ q
+      → (number : ℕ) (part left : List Float) (told count : ℕ)
+      → number ≡ frameNumber (tableNumber floats t) (trackIn floats t) r k → part ≡ frameIn floats t r k
+      → CopiedOut number part lent left told count
+      → Framed floats u q k lent left (record { number = told; count = count })
+  framed h t f r m number part left told count n p c =
+      copied-as number _ part _ lent left told count
+      (named (λ g tr. frameNumber g tr q k) h t f number
+      (n ∙ (λ j. frameNumber (tableNumber floats t) (trackIn floats t) (m j) k)))
+      (named (λ g tr. frameOf g tr q k) h t f part (p ∙ (λ j. frameIn floats t (m j) k)))
+      c

@@ -1,3 +1,4 @@
+pub mod Naming
 pub mod Handing
 pub mod Rooms
 pub mod Decoding

@@ -12,7 +12,10 @@ use Rattle.model.specs.Refusals.{number, outOfTable, overLimit, trackOverLimit}
 use Rattle.wire.specs.Bytes.{floatsIn, bytesOf}
 use Rattle.animation.specs.declared.Track.{Track}
 use Rattle.animation.specs.Tracks.{keysFit, valuesFit, trackIn}
+use Rattle.tables.specs.declared.ChannelRow.{ChannelRow}
+use Rattle.tables.specs.Tags.{trackFor}
 use Rattle.track_entries.specs.declared.tracks.Told.{Told}
+use Rattle.track_entries.specs.Tracks.{trackNumber}
 
 -- the most floats of a table that a call decodes: the size of its local array
 abbrev pub decodedLimit : ℕ
@@ -28,6 +31,12 @@ decodedNumber floats t =
 abbrev pub sampledInBytes : List ℕ → Track → Float → List Float → Sampled
 sampledInBytes table t time lent =
     let floats = floatsIn table in sampled (decodedNumber floats t) (trackIn floats t) time lent
+
+-- the same of a track that is handed in by numbers
+abbrev pub sampledForBytes : List ℕ → ChannelRow → Float → List Float → Sampled
+sampledForBytes table r time lent =
+    let floats = floatsIn table in
+    sampled (trackNumber (decodedNumber floats (trackFor r)) r) (trackIn floats (trackFor r)) time lent
 
 -- number and weights are told, a Vec3 or Quat stands at the start of `value`, weights at the start of `out`; past these the bytes are as lent
 pub record DeliveredBytes (s : Sampled) (lentValue leftValue lentOut leftOut : List ℕ) (told : Told) : Type 0 where

@@ -1,7 +1,8 @@
 // A track sampled in a table of bytes: little-endian floats, and a track's numbers as for a table of floats. Bytes past the
 // last whole float are not counted, and a NaN is written 7fc00000.
 use crate::tracks::Told;
-use crate::tracks::track_for;
+use crate::tracks::is_unnamed;
+use crate::tracks::row_for;
 use animation::SampledValue;
 use animation::Track;
 ghost use mathlib.Core.Path.{_≡_};
@@ -11,8 +12,8 @@ ghost use lib.ListN.{length};
 ghost use Rattle.model.specs.Limits.{weightLimit};
 ghost use Rattle.animation.specs.Values.{answerOf};
 ghost use Rattle.wire.specs.Bytes.{floatsIn};
-ghost use Rattle.track_entries.specs.Tracks.{trackFor, sampledIn};
-ghost use Rattle.track_entries.specs.Bytes.{decodedLimit, sampledInBytes, DeliveredBytes};
+ghost use Rattle.track_entries.specs.Tracks.{rowFor, sampledIn};
+ghost use Rattle.track_entries.specs.Bytes.{decodedLimit, sampledInBytes, sampledForBytes, DeliveredBytes};
 
 // The floats that the local array has room for.
 const DECODED: usize = 65536;
@@ -104,9 +105,12 @@ pub extern "C" fn sample(
     value: &mut [u8; 16],
     out: &mut [u8],
 ) -> Told
-    ensures { λ r. ⌜ DeliveredBytes (sampledInBytes (now (table .entry)) (trackFor kind interpolation «keys_at» «keys_count» «values_at» «values_count») (ofBits binary32 time) (floatsIn (now (out .entry)))) (now (value .entry)) (now (value .exit)) (now (out .entry)) (now (out .exit)) r ⌝ }
+    ensures { λ r. ⌜ DeliveredBytes (sampledForBytes (now (table .entry))
+        (rowFor kind interpolation «keys_at» «keys_count» «values_at» «values_count»)
+        (ofBits binary32 time) (floatsIn (now (out .entry))))
+        (now (value .entry)) (now (value .exit)) (now (out .entry)) (now (out .exit)) r ⌝ }
 {
-    let t = track_for(
+    let row = row_for(
         kind,
         interpolation,
         keys_at,
@@ -114,6 +118,13 @@ pub extern "C" fn sample(
         values_at,
         values_count,
     );
+    if is_unnamed(table.len() / 4, row) {
+        return Told {
+            number: 2,
+            count: 0,
+        };
+    }
+    let t = tables::track_of(row);
     let time = float::from_bits(time);
     let mut weights = [0.0f32; WEIGHTS];
     let room = wire::least(out.len() / 4, WEIGHTS);

@@ -1,6 +1,7 @@
-// The calls of `animation` over a table of floats. A track is handed in by numbers: the kind is 0 for Vec3, 1 for Quat and
-// otherwise scalar, the interpolation 0 for Step, 1 for Linear and otherwise CubicSpline; then where its keys start and how
-// many there are, and the same of its values, which are counted by the kind's entries.
+// The calls of `animation` over a table of floats. A track is handed in by numbers: the kind is 0 for Vec3, 1 for Quat
+// and 2 for scalar, the interpolation 0 for Step, 1 for Linear and 2 for CubicSpline; then where its keys start and
+// how many there are, and the same of its values, which are counted by the kind's entries. A kind or interpolation
+// that names nothing draws 2, or 1 where the track leaves the table; the values of such a kind are counted as weights.
 use animation::Part;
 use animation::SampledValue;
 use animation::Track;
@@ -8,25 +9,30 @@ use scene::Quat;
 use scene::Vec3;
 use tables::ChannelRow;
 ghost use mathlib.Core.Path.{_≡_};
-ghost use mathlib.Core.Bool.{Bool};
+ghost use mathlib.Core.Bool.{Bool, not, _&&_};
 ghost use mathlib.Core.List.{_++_};
 ghost use lib.ListN.{drop};
 ghost use Rattle.scene.specs.Values.{vec3, quat};
 ghost use Rattle.model.specs.Sampling.{inLine};
-ghost use Rattle.tables.specs.Tags.{isMarked};
-ghost use Rattle.track_entries.specs.Tracks.{trackFor, sampledIn, frameNumberIn, frameIn, frameStrideIn, markOf, Delivered, Copied};
+ghost use Rattle.animation.specs.Tracks.{keysFit, valuesFit};
+ghost use Rattle.animation.specs.Values.{answerOf};
+ghost use Rattle.tables.specs.Tags.{isMarked, trackFor};
+ghost use Rattle.row_checks.specs.Bounds.{tagsKnown};
+ghost use Rattle.track_entries.specs.Tracks.{rowFor, sampledFor, frameIn, strideFor, markOf};
+ghost use Rattle.track_entries.specs.Tracks.{Delivered, Framed};
 
-pub(crate) fn track_for(
+// The numbers of a track, as a channel's.
+pub(crate) fn row_for(
     kind: u32,
     interpolation: u32,
     keys_at: usize,
     keys_count: usize,
     values_at: usize,
     values_count: usize,
-) -> Track
-    ensures { λ r. ⌜ r ≡ trackFor kind interpolation «keys_at» «keys_count» «values_at» «values_count» ⌝ }
+) -> ChannelRow
+    ensures { λ r. ⌜ r ≡ rowFor kind interpolation «keys_at» «keys_count» «values_at» «values_count» ⌝ }
 {
-    tables::track_of(ChannelRow {
+    ChannelRow {
         target: 0,
         property: 0,
         kind,
@@ -39,7 +45,17 @@ pub(crate) fn track_for(
             at: values_at,
             count: values_count,
         },
-    })
+    }
+}
+
+// Whether kind or interpolation of a track that lies in a table of so many floats names nothing.
+pub(crate) fn is_unnamed(len: usize, row: ChannelRow) -> bool
+    ensures { λ r. ⌜ r ≡ (not (tagsKnown row) && (keysFit len (trackFor row) && valuesFit len (trackFor row))) ⌝ }
+{
+    if row_checks::tags_known(row) {
+        return false;
+    }
+    animation::lies_in(len, tables::track_of(row))
 }
 
 // The lent array with v at its start.
@@ -72,8 +88,18 @@ pub struct Told {
     pub count: usize,
 }
 
-// The value of a track at a time. A Vec3 or Quat is written to the start of `value`, the weights of a scalar track to the
-// start of `out`, and these are counted; otherwise both stay as lent.
+// The value of a track at a time, by its numbers.
+fn sample_row(floats: &[f32], row: ChannelRow, time: f32, out: &mut [f32]) -> SampledValue
+    ensures { λ r. ⌜ answerOf r (now (out .exit)) ≡ sampledFor (now (floats .entry)) row time (now (out .entry)) ⌝ }
+{
+    if is_unnamed(floats.len(), row) {
+        return SampledValue::Refused(2);
+    }
+    animation::sample(floats, tables::track_of(row), time, out)
+}
+
+// The value of a track at a time. A Vec3 or Quat is written to the start of `value`, the weights of a scalar track to
+// the start of `out`, and these are counted; otherwise both stay as lent.
 #[no_mangle]
 pub extern "C" fn sample_floats(
     floats: &[f32],
@@ -87,9 +113,11 @@ pub extern "C" fn sample_floats(
     value: &mut [f32; 4],
     out: &mut [f32],
 ) -> Told
-    ensures { λ r. ⌜ Delivered (sampledIn (now (floats .entry)) (trackFor kind interpolation «keys_at» «keys_count» «values_at» «values_count») time (now (out .entry))) (now (value .entry)) (now (value .exit)) (now (out .exit)) r ⌝ }
+    ensures { λ r. ⌜ Delivered (sampledFor (now (floats .entry))
+        (rowFor kind interpolation «keys_at» «keys_count» «values_at» «values_count») time (now (out .entry)))
+        (now (value .entry)) (now (value .exit)) (now (out .exit)) r ⌝ }
 {
-    let t = track_for(
+    let row = row_for(
         kind,
         interpolation,
         keys_at,
@@ -97,7 +125,7 @@ pub extern "C" fn sample_floats(
         values_at,
         values_count,
     );
-    match animation::sample(floats, t, time, out) {
+    match sample_row(floats, row, time, out) {
         SampledValue::Vec3(v) => {
             let lent = *value;
             *value = vec3_over(v, lent);
@@ -129,7 +157,8 @@ fn frame_in<'a>(floats: &'a [f32], t: Track, rows: bool, k: usize) -> &'a [f32]
     animation::morph_weight_frame(floats, t, k)
 }
 
-// The weights of frame k or, where the mark is not 0, all three rows, copied to the start of `out` as far as there is room.
+// Copies the weights of frame k or, where the mark is not 0, all three rows, to the start of `out`. Where a number is
+// answered, nothing is changed.
 #[no_mangle]
 pub extern "C" fn frame_floats(
     floats: &[f32],
@@ -143,9 +172,11 @@ pub extern "C" fn frame_floats(
     k: usize,
     out: &mut [f32],
 ) -> Told
-    ensures { λ r. ⌜ Copied (frameNumberIn (now (floats .entry)) (trackFor kind interpolation «keys_at» «keys_count» «values_at» «values_count») (isMarked rows) k) (frameIn (now (floats .entry)) (trackFor kind interpolation «keys_at» «keys_count» «values_at» «values_count») (isMarked rows) k) (now (out .entry)) (now (out .exit)) r ⌝ }
+    ensures { λ r. ⌜ Framed (now (floats .entry))
+        (rowFor kind interpolation «keys_at» «keys_count» «values_at» «values_count») (isMarked rows) k
+        (now (out .entry)) (now (out .exit)) r ⌝ }
 {
-    let t = track_for(
+    let row = row_for(
         kind,
         interpolation,
         keys_at,
@@ -153,13 +184,23 @@ pub extern "C" fn frame_floats(
         values_at,
         values_count,
     );
+    if is_unnamed(floats.len(), row) {
+        return Told {
+            number: 2,
+            count: 0,
+        };
+    }
+    let t = tables::track_of(row);
     let rows = tables::is_marked(rows);
     let number = animation::frame_number(floats, t, rows, k);
-    let count = wire::copy_floats(frame_in(floats, t, rows, k), out);
-    Told { number, count }
+    let copied = outputs::copy_out(number, frame_in(floats, t, rows, k), out);
+    Told {
+        number: copied.number,
+        count: copied.count,
+    }
 }
 
-// The weights per frame of an even scalar track, and 0 of any other.
+// The weights per frame of an even scalar track, and 0 of any other, or where the track draws 1 or 2.
 #[no_mangle]
 pub extern "C" fn stride_floats(
     floats: &[f32],
@@ -170,9 +211,10 @@ pub extern "C" fn stride_floats(
     values_at: usize,
     values_count: usize,
 ) -> usize
-    ensures { λ r. ⌜ r ≡ frameStrideIn (now (floats .entry)) (trackFor kind interpolation «keys_at» «keys_count» «values_at» «values_count») ⌝ }
+    ensures { λ r. ⌜ r ≡ strideFor (now (floats .entry))
+        (rowFor kind interpolation «keys_at» «keys_count» «values_at» «values_count») ⌝ }
 {
-    let t = track_for(
+    let row = row_for(
         kind,
         interpolation,
         keys_at,
@@ -180,7 +222,10 @@ pub extern "C" fn stride_floats(
         values_at,
         values_count,
     );
-    animation::morph_weight_stride(floats, t)
+    if is_unnamed(floats.len(), row) {
+        return 0;
+    }
+    animation::morph_weight_stride(floats, tables::track_of(row))
 }
 
 // 1 where every key is finite and above the one before, and otherwise 0.

@@ -144,9 +144,9 @@ pub struct Told {
 /// A track in a table of floats.
 pub struct Track<'a> {
     pub floats: &'a [f32],
-    /// 0 for Vec3, 1 for Quat, 2 for scalars.
+    /// 0 for Vec3, 1 for Quat, 2 for scalars; any other names nothing.
     pub kind: u32,
-    /// 0 for Step, 1 for Linear, 2 for CubicSpline.
+    /// 0 for Step, 1 for Linear, 2 for CubicSpline; any other names nothing.
     pub interpolation: u32,
     pub keys_at: usize,
     pub keys_count: usize,
@@ -206,7 +206,7 @@ pub fn sample_bytes(
 }
 
 /// Copies the weights of frame `k`, or all its three rows, to the start of
-/// `out`.
+/// `out`. Answers 1, 2, 4, 10, 12 or 0.
 pub fn frame(track: &Track, rows: bool, k: usize, out: &mut [f32]) -> Told {
     // SAFETY: as for `sample`.
     unsafe {

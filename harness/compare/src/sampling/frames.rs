@@ -1,6 +1,7 @@
 //! `morph_weight_frame`, `morph_weight_cubic_frame` and `morph_weight_stride`. The
 //! Rust's None is 4 where the layout is not even, and otherwise 12, or a stride
-//! of 0; its three rows are one part here. Keys are not looked at.
+//! of 0; its three rows are one part here. Keys are not looked at. An output that
+//! is shorter than the frame draws 10, and stays as lent.
 
 use super::{
     bits, same_bits,
@@ -15,6 +16,7 @@ use crate::{
 const TRACKS: usize = 200_000;
 /// Past the end of a frame.
 const SPARE: usize = 2;
+const SHORT_OUTPUT: u32 = 10;
 
 pub fn compare() -> bool {
     let mut comparison = Comparison::new();
@@ -36,6 +38,7 @@ struct Comparison {
     frames: Tally<(usize, usize)>,
     strides: Tally<usize>,
     met: Met<6>,
+    rooms: Met<4>,
 }
 
 impl Comparison {
@@ -51,28 +54,52 @@ impl Comparison {
                 "with 4",
                 "with 12",
             ]),
+            rooms: Met::new(["to spare", "just enough", "one short", "empty"]),
         }
     }
 
+    /// With room to spare, just enough, one float short, and none.
     fn count(&mut self, track: &Track, rows: bool, k: usize) {
         let part = rust_frame(track, rows, k);
         let number = number(track, &part);
         let part = part.filter(|_| number == 0).unwrap_or_default();
         self.met_frame(track, rows, number);
+        let len = part.len();
+        for room in [len + SPARE, len, len.saturating_sub(1), 0] {
+            self.met_room(len, room);
+            let number = if room < len { SHORT_OUTPUT } else { number };
+            self.count_with(track, (rows, k), (number, &part), room);
+        }
+    }
 
-        let mut expected = part.clone();
-        expected.resize(part.len() + SPARE, UNTOUCHED);
-        let mut out = vec![UNTOUCHED; expected.len()];
+    /// Of a frame, whose number and floats are expected, with so much room.
+    fn count_with(
+        &mut self,
+        track: &Track,
+        (rows, k): (bool, usize),
+        (number, part): (u32, &[f32]),
+        room: usize,
+    ) {
+        let written = if number == 0 { part } else { &[] };
+        let mut expected = written.to_vec();
+        expected.resize(room, UNTOUCHED);
+        let mut out = vec![UNTOUCHED; room];
         let told = port::frame(&track.of_port(), rows, k, &mut out);
-        let rust = Told {
-            number,
-            count: part.len(),
-        };
-        let equal = told == rust && same_bits(&expected, &out);
+        let count = written.len();
+        let equal = told == Told { number, count } && same_bits(&expected, &out);
         self.frames.count((track.keys().len(), k), equal, |_| {
             let (track, rust, port) = (track.told(), bits(&expected), bits(&out));
             format!("{track}, frame {k}, rows {rows}, Rust {number} {rust:08x?}, port {told:?} {port:08x?}")
         });
+    }
+
+    fn met_room(&mut self, len: usize, room: usize) {
+        self.rooms.count_all(&[
+            room > len,
+            room == len && len > 0,
+            room + 1 == len,
+            room == 0 && len > 0,
+        ]);
     }
 
     fn count_stride(&mut self, track: &Track) {
@@ -98,10 +125,11 @@ impl Comparison {
     }
 
     fn report(&self) -> bool {
+        let note = format!("{}; room{}", self.met.note(), self.rooms.note());
         let equal = [
-            self.frames
-                .report("morph frames", "cases", &self.met.note()),
+            self.frames.report("morph frames", "cases", &note),
             self.met.report(),
+            self.rooms.report(),
             self.strides.report("morph_weight_stride", "tracks", ""),
         ];
         !equal.contains(&false)

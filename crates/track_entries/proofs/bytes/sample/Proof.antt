@@ -2,8 +2,7 @@
 use mathlib.Core.Path.{sym, _∙_}
 use borrow.Author.Needs.{needs}
 use lib.Seq.{length-take-le}
-use Rattle.track_entries.specs.Tracks.{trackFor}
-use Rattle.track_entries.proofs.Delivering.{as-handed}
+use Rattle.track_entries.proofs.Delivering.{as-handed, not-handed}
 use Rattle.track_entries.proofs.bytes.sample.Statement.{statement}
 use Rattle.track_entries.proofs.bytes.sample.Tie as tie
 
@@ -15,13 +14,21 @@ sample-over-requires c κs = length-take-le _ _ (search needs) ∙ c .before .be
 
 returns : tie.Need-returns
 returns c =
+    let r = c .before .before in
+    let a = r .before .before .before .args in
+    not-handed (a .table .now) _ _ (r .row-for .ensures) _ (a .value .now) (a .out .now)
+    (sym (c .before .is-unnamed .ensures) ∙ c .if1 .taken)
+
+returns-2 : tie.Need-returns-2
+returns-2 c =
     let s = c .before .before .before in
-    let a = s .before .before .before .before .before .before .before .before .before .args in
-    let t = s .before .before .before .before .before .before .track-for in
-    let time = s .before .before .before .before .before .from-bits in
-    let track = trackFor (a .kind) (a .interpolation) (a .keys-at) (a .keys-count) (a .values-at) (a .values-count) in
-    as-handed (a .table .now) (t .result) track (time .result) _ (a .value .now) _ (a .out .now) _ _
-    (t .ensures) (time .ensures) (s .sample-over .ensures)
+    let time = s .before .before .before .before .before in
+    let t = time .before in
+    let r = t .before .before .before in
+    let a = r .before .before .before .args in
+    as-handed (a .table .now) _ _ (r .row-for .ensures) _ (a .value .now) (a .out .now)
+    (sym (t .before .before .is-unnamed .ensures) ∙ t .before .if1 .left) _ (t .track-of .ensures)
+    (time .from-bits .result) (time .from-bits .ensures) _ _ _ (s .sample-over .ensures)
 
 pub sample-spec : {M : Type 1} → statement M
 sample-spec =
@@ -29,9 +36,12 @@ sample-spec =
     (tie.spec
     (λ c κs. search needs)
     (λ c κs. search needs)
+    returns
+    (λ c κs. search needs)
+    (λ c κs. search needs)
     (λ c κs. search needs)
     (λ c. search needs)
     slice-aggregate-sample-over
     sample-over-requires
     (λ c. search needs)
-    returns)
+    returns-2)

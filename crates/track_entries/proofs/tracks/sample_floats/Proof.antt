@@ -5,16 +5,32 @@ use Rattle.track_entries.proofs.tracks.sample_floats.Statement.{stateme
 use Rattle.track_entries.proofs.tracks.sample_floats.Tie as tie
 
 returns : tie.Need-returns
-returns c = left-vec3 _ _ _ _ (sampled-alike _ _ _ (c .before .before .before .before .before .before .before .before .before .track-for .ensures) _ _ _ (c .before .before .before .before .before .before .before .sample .ensures)) _ _ (c .before .before .before .v .given .1) (c .vec3-over .ensures)
+returns c =
+    let v = c .before .before .before in
+    let s = v .before .before .before .before in
+    left-vec3 _ _ _ _ (sampled-alike _ _ _ (s .before .before .row-for .ensures) _ _ _ (s .sample-row .ensures)) _ _
+    (v .v .given .1) (c .vec3-over .ensures)
 
 returns-2 : tie.Need-returns-2
-returns-2 c = left-quat _ _ _ _ (sampled-alike _ _ _ (c .before .before .before .before .before .before .before .before .before .track-for .ensures) _ _ _ (c .before .before .before .before .before .before .before .sample .ensures)) _ _ (c .before .before .before .q .given .1) (c .quat-over .ensures)
+returns-2 c =
+    let q = c .before .before .before in
+    let s = q .before .before .before .before in
+    left-quat _ _ _ _ (sampled-alike _ _ _ (s .before .before .row-for .ensures) _ _ _ (s .sample-row .ensures)) _ _
+    (q .q .given .1) (c .quat-over .ensures)
 
 returns-3 : tie.Need-returns-3
-returns-3 c = left-weights _ _ _ _ (sampled-alike _ _ _ (c .before .before .before .before .before .before .before .track-for .ensures) _ _ _ (c .before .before .before .before .before .sample .ensures)) _ (c .before .count .given .1)
+returns-3 c =
+    let n = c .before in
+    let s = n .before .before .before .before in
+    left-weights _ _ _ _ (sampled-alike _ _ _ (s .before .before .row-for .ensures) _ _ _ (s .sample-row .ensures)) _
+    (n .count .given .1)
 
 returns-4 : tie.Need-returns-4
-returns-4 c = left-refused _ _ _ _ (sampled-alike _ _ _ (c .before .before .before .before .before .before .before .track-for .ensures) _ _ _ (c .before .before .before .before .before .sample .ensures)) _ (c .before .number .given .1)
+returns-4 c =
+    let n = c .before in
+    let s = n .before .before .before .before in
+    left-refused _ _ _ _ (sampled-alike _ _ _ (s .before .before .row-for .ensures) _ _ _ (s .sample-row .ensures)) _
+    (n .number .given .1)
 
 pub sample-floats-spec : {M : Type 1} → statement M
 sample-floats-spec =

@@ -1,11 +1,32 @@
 -- `track_entries::tracks::stride_floats` meets its contract. Assumes nothing.
+use mathlib.Core.Path.{sym, _∙_}
 use borrow.Author.Needs.{needs}
-use Rattle.track_entries.proofs.Handing.{stride-alike}
+use Rattle.model.specs.Calls.{strideOf}
+use Rattle.animation.specs.Tracks.{tableNumber}
+use Rattle.track_entries.proofs.Naming.{table-draws, by-name, without-name}
+use Rattle.track_entries.proofs.Handing.{no-stride}
 use Rattle.track_entries.proofs.tracks.stride_floats.Statement.{statement}
 use Rattle.track_entries.proofs.tracks.stride_floats.Tie as tie
 
 returns : tie.Need-returns
-returns c = stride-alike _ _ _ (c .before .track-for .ensures) _ (c .morph-weight-stride .ensures)
+returns c =
+    without-name strideOf _ (tableNumber _) _ _ (c .before .before .row-for .ensures) _ (table-draws _ _)
+    (sym (c .before .is-unnamed .ensures) ∙ c .if1 .taken) _ no-stride
+
+returns-2 : tie.Need-returns-2
+returns-2 c =
+    let i = c .before .before in
+    by-name strideOf _ (tableNumber _) _ _ (i .before .before .row-for .ensures) _ (table-draws _ _)
+    (sym (i .before .is-unnamed .ensures) ∙ i .if1 .left)
+    _ (c .before .track-of .ensures) _ (c .morph-weight-stride .ensures)
 
 pub stride-floats-spec : {M : Type 1} → statement M
-stride-floats-spec = tie.close (tie.spec (λ c κs. search needs) (λ c κs. search needs) returns)
+stride-floats-spec =
+    tie.close
+    (tie.spec
+    (λ c κs. search needs)
+    (λ c κs. search needs)
+    returns
+    (λ c κs. search needs)
+    (λ c κs. search needs)
+    returns-2)
