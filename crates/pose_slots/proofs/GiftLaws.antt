@@ -8,8 +8,19 @@ use Rattle.model.specs.Pose.{Pose, atRest, given, replaced}
 use Rattle.scene.specs.declared.Vec3.{Vec3}
 use Rattle.scene.specs.declared.Quat.{Quat}
 use Rattle.scene.specs.Values.{vec3, quat}
+use Rattle.pose_slots.specs.declared.NodePose.{NodePose}
+use Rattle.pose_slots.specs.declared.Gift.{Gift}
 use Rattle.pose_slots.specs.declared.Gift.the-variants as gift
-use Rattle.pose_slots.specs.Gifts.{bare, Gives}
+use Rattle.pose_slots.specs.Slots.{poseOf}
+use Rattle.pose_slots.specs.Gifts.{bare, received, withGift, Gives}
+
+-- a gift in a pose as the code holds it
+pub gift-pose : (g : Gift) (p : NodePose) → poseOf (withGift g p) ≡ received g (poseOf p)
+gift-pose (gift.Translation v) p = refl
+gift-pose (gift.Rotation q) p = refl
+gift-pose (gift.Scale v) p = refl
+gift-pose gift.Weights p = refl
+gift-pose gift.Nothing p = refl
 
 -- a channel with no value changes nothing
 unposed : (q : Property) (p : Pose) → replaced q none p ≡ p

@@ -5,34 +5,55 @@ use mathlib.Core.List.{List}
 use Prim.Native.Nat.{ℕ, _+_, _-_, _*_, _/_, _≤_, _<_}
 use native.Mathlib.Numerals.{add-one}
 use native.Mathlib.Omega.{arith}
-use borrow.Author.Tests.{lt-ltb, le-ltb}
-use lib.Ieee.{Float}
-use lib.ListN.{length, getD, set, take, drop}
-use lib.Seq.{paste, paste-suc}
+use borrow.Author.Tests.{lt-ltb, le-ltb, ltb-true}
+use lib.Dec.{ltb}
+use lib.Ieee.{Float, nan}
+use lib.ListN.{length, getD, set, take, drop, length-drop}
+use lib.Seq.{paste, paste-suc, length-take-le}
 use Rattle.model.specs.Lists.{pick, row, isSome}
 use Rattle.model.specs.Vector.{Vector}
 use Rattle.model.specs.Pose.{Pose, atRest}
-use Rattle.pose_slots.specs.Slots.{when, room, poseFrom, poseIn}
+use Rattle.model.proofs.ListLaws.{entriesFrom, by-entries}
+use Rattle.pose_slots.specs.declared.NodePose.{NodePose}
+use Rattle.pose_slots.specs.Slots.{when, poseOf, restingPose, room, slotFrom, poseFrom, slotPose, poseIn}
+
+-- what four words and ten floats hold is what they say
+said : (four : List ℕ) (ten : List Float) → length ten ≡ 10 → poseOf (slotFrom four ten) ≡ poseFrom four ten
+unfolding entriesFrom
+said four ten h = sym (ap (poseFrom four) (by-entries nan ten 10 h))
 
 module _ (marks : List ℕ) (slots : List Float) (i : ℕ) where
-  choice : Bool → Pose
-  choice b = pick b (poseFrom (row 4 marks i) (row 10 slots i)) atRest
+  abbrev held : Bool → NodePose
+  held b = pick b (slotFrom (row 4 marks i) (row 10 slots i)) restingPose
+
+  abbrev told : Bool → Pose
+  told b = pick b (poseFrom (row 4 marks i) (row 10 slots i)) atRest
 
   pub in-room : i < room marks slots → poseFrom (row 4 marks i) (row 10 slots i) ≡ poseIn marks slots i
-  unfolding poseIn choice
-  in-room h = ap choice (sym (lt-ltb i (room marks slots) h))
+  unfolding poseIn
+  in-room h = ap told (sym (lt-ltb i (room marks slots) h))
 
-  pub past-room : room marks slots ≤ i → atRest ≡ poseIn marks slots i
-  unfolding poseIn choice
-  past-room h = ap choice (sym (le-ltb i (room marks slots) h))
+  pub past-room : room marks slots ≤ i → restingPose ≡ slotPose marks slots i
+  unfolding slotPose
+  past-room h = ap held (sym (le-ltb i (room marks slots) h))
 
   -- as the code cuts the slices
   pub cut-in-room : i < length marks / 4 → i < length slots / 10
-      → poseFrom (take (i * 4 + 4 - i * 4) (drop (i * 4) marks)) (take (i * 10 + 10 - i * 10) (drop (i * 10) slots)) ≡ poseIn marks slots i
+      → slotFrom (take (i * 4 + 4 - i * 4) (drop (i * 4) marks)) (take (i * 10 + 10 - i * 10) (drop (i * 10) slots)) ≡ slotPose marks slots i
+  unfolding slotPose
   cut-in-room h k =
       let a : i * 4 + 4 - i * 4 ≡ 4 = omega arith in
       let b : i * 10 + 10 - i * 10 ≡ 10 = omega arith in
-      (λ j. poseFrom (take (a j) (drop (i * 4) marks)) (take (b j) (drop (i * 10) slots))) ∙ in-room (omega arith)
+      (λ j. slotFrom (take (a j) (drop (i * 4) marks)) (take (b j) (drop (i * 10) slots))) ∙ ap held (sym (lt-ltb i (room marks slots) (omega arith)))
+
+  -- what a slot holds is what it says
+  pub slot-pose : poseOf (slotPose marks slots i) ≡ poseIn marks slots i
+  unfolding slotPose poseIn
+  slot-pose = go (ltb i (room marks slots)) refl
+    where
+      go : (b : Bool) → ltb i (room marks slots) ≡ b → poseOf (held b) ≡ told b
+      go true h = said (row 4 marks i) (row 10 slots i) (length-take-le 10 (drop (i * 10) slots) (omega (arith, length-drop (i * 10) slots, ltb-true i (room marks slots) h)))
+      go false h = refl
 
 -- ---- what is put
 

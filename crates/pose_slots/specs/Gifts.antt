@@ -7,6 +7,7 @@ use Rattle.model.specs.Vector.{Vector}
 use Rattle.model.specs.Scene.{Property, Kind}
 use Rattle.model.specs.Pose.{Pose, atRest, given, replaced}
 use Rattle.scene.specs.Values.{vec3, quat}
+use Rattle.pose_slots.specs.declared.NodePose.{NodePose}
 use Rattle.pose_slots.specs.declared.Gift.{Gift}
 use Rattle.pose_slots.specs.declared.Gift.the-variants as gift
 
@@ -20,6 +21,35 @@ received (gift.Rotation q) p = record { translation = p .translation; rotation =
 received (gift.Scale v) p = record { translation = p .translation; rotation = p .rotation; scale = some (vec3 v); weights = p .weights }
 received gift.Weights p = p
 received gift.Nothing p = p
+
+-- the same of the pose as the code holds it: the value is put in place with its mark, and the rest is as it was
+abbrev pub withGift : Gift → NodePose → NodePose
+withGift (gift.Translation v) p = record {
+  «has_translation» = true;
+  translation = v;
+  «has_rotation» = p .«has_rotation»;
+  rotation = p .rotation;
+  «has_scale» = p .«has_scale»;
+  scale = p .scale;
+}
+withGift (gift.Rotation q) p = record {
+  «has_translation» = p .«has_translation»;
+  translation = p .translation;
+  «has_rotation» = true;
+  rotation = q;
+  «has_scale» = p .«has_scale»;
+  scale = p .scale;
+}
+withGift (gift.Scale v) p = record {
+  «has_translation» = p .«has_translation»;
+  translation = p .translation;
+  «has_rotation» = p .«has_rotation»;
+  rotation = p .rotation;
+  «has_scale» = true;
+  scale = v;
+}
+withGift gift.Weights p = p
+withGift gift.Nothing p = p
 
 abbrev pub bringsWeights : Gift → Bool
 bringsWeights (gift.Translation v) = false

@@ -9,7 +9,7 @@ use lib.Ieee.{Float}
 use lib.ListN.{length, getD, take, replicate}
 use Rattle.float.specs.F32.{zero32}
 use Rattle.model.specs.Lists.{pick, part, row, isSome, orElse}
-use Rattle.model.specs.Vector.{Vector}
+use Rattle.model.specs.Vector.{Vector, at}
 use Rattle.model.specs.Pose.{Pose, atRest}
 use Rattle.scene.specs.Values.{vec3, quat}
 use Rattle.tables.specs.Tags.{isMarked}
@@ -27,13 +27,31 @@ poseOf p = record {
   weights = none;
 }
 
+-- the pose of three marks and ten floats, which are held whatever the marks say
+abbrev pub holding : Bool → Bool → Bool → List Float → NodePose
+holding t r s ten = record {
+  «has_translation» = t;
+  translation = record { x = at ten 0; y = at ten 1; z = at ten 2 };
+  «has_rotation» = r;
+  rotation = record { x = at ten 3; y = at ten 4; z = at ten 5; w = at ten 6 };
+  «has_scale» = s;
+  scale = record { x = at ten 7; y = at ten 8; z = at ten 9 };
+}
+
+-- nothing is posed, and every float is 0
+abbrev pub restingPose : NodePose
+restingPose = holding false false false (replicate 10 zero32)
+
 -- ---- slots
 
 -- how many nodes the lent slots hold
 abbrev pub room : List ℕ → List Float → ℕ
 room marks slots = min (length marks / 4) (length slots / 10)
 
--- what four words and ten floats say
+-- What four words and ten floats hold, and what they say. A mark that is lent above 1 means the same as 1.
+abbrev pub slotFrom : List ℕ → List Float → NodePose
+slotFrom four ten = holding (isMarked (getD four 0 0)) (isMarked (getD four 1 0)) (isMarked (getD four 2 0)) ten
+
 abbrev pub poseFrom : List ℕ → List Float → Pose
 poseFrom four ten = record {
   translation = when (isMarked (getD four 0 0)) (take 3 ten);
@@ -42,7 +60,11 @@ poseFrom four ten = record {
   weights = none;
 }
 
--- the pose of node i; past the slots nothing is posed
+-- what slot i holds; past the slots the resting pose
+unfoldable pub slotPose : List ℕ → List Float → ℕ → NodePose
+slotPose marks slots i = pick (ltb i (room marks slots)) (slotFrom (row 4 marks i) (row 10 slots i)) restingPose
+
+-- the pose of node i that its slot says; past the slots nothing is posed
 unfoldable pub poseIn : List ℕ → List Float → ℕ → Pose
 poseIn marks slots i = pick (ltb i (room marks slots)) (poseFrom (row 4 marks i) (row 10 slots i)) atRest
 

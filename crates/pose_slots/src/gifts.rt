@@ -15,9 +15,8 @@ ghost use Rattle.model.specs.Sampling.{even, inLine, sample};
 ghost use Rattle.scene.specs.Values.{vec3, quat};
 ghost use Rattle.animation.specs.Tracks.{tableNumber};
 ghost use Rattle.tables.specs.Tags.{trackFor, propertyOf};
-ghost use Rattle.pose_slots.specs.Slots.{poseOf};
 ghost use Rattle.pose_slots.specs.Channels.{channelIn};
-ghost use Rattle.pose_slots.specs.Gifts.{received, Gives};
+ghost use Rattle.pose_slots.specs.Gifts.{withGift, Gives};
 
 fn length4(q: Quat) -> f32
     ensures { λ r. ⌜ r ≡ norm (quat q) ⌝ }
@@ -92,7 +91,7 @@ pub fn gift_at(floats: &[f32], row: ChannelRow, time: f32) -> Gift
 
 // A pose with a gift in place.
 pub fn receive(p: NodePose, g: Gift) -> NodePose
-    ensures { λ r. ⌜ poseOf r ≡ received g (poseOf p) ⌝ }
+    ensures { λ r. ⌜ r ≡ withGift g p ⌝ }
 {
     let mut r = p;
     match g {

@@ -5,17 +5,14 @@ use scene::Quat;
 use scene::Vec3;
 ghost use mathlib.Core.Path.{_≡_};
 ghost use Prim.Native.Nat.{_+_, _*_, _<_, _≤_};
-ghost use lib.ListN.{length, replicate};
+ghost use lib.ListN.{length};
 ghost use lib.Seq.{paste};
-ghost use Rattle.model.specs.Pose.{atRest};
-ghost use Rattle.float.specs.F32.{zero32};
-ghost use Rattle.scene.specs.Values.{vec3, quat};
-ghost use Rattle.pose_slots.specs.Slots.{poseOf, room, poseFrom, poseIn, markOf, wordsOf, floatsOf};
+ghost use Rattle.pose_slots.specs.Slots.{poseOf, restingPose, room, slotFrom, slotPose, markOf, wordsOf, floatsOf};
 
-// What the words and floats of one slot say.
+// What the words and floats of one slot hold.
 fn pose_from(four: &[u32], ten: &[f32]) -> NodePose
     requires { ⌜ (length (now four) ≡ 4) × (length (now ten) ≡ 10) ⌝ }
-    ensures { λ r. ⌜ poseOf r ≡ poseFrom (now (four .entry)) (now (ten .entry)) ⌝ }
+    ensures { λ r. ⌜ r ≡ slotFrom (now (four .entry)) (now (ten .entry)) ⌝ }
 {
     NodePose {
         has_translation: tables::is_marked(four[0]),
@@ -40,9 +37,9 @@ fn pose_from(four: &[u32], ten: &[f32]) -> NodePose
     }
 }
 
-// The pose of node i; past the slots nothing is posed.
+// The pose of node i; past the slots the resting pose. A mark above 1 means the same as 1.
 pub fn pose_at(marks: &[u32], slots: &[f32], i: usize) -> NodePose
-    ensures { λ r. ⌜ poseOf r ≡ poseIn (now (marks .entry)) (now (slots .entry)) i ⌝ }
+    ensures { λ r. ⌜ r ≡ slotPose (now (marks .entry)) (now (slots .entry)) i ⌝ }
 {
     if i < marks.len() / 4 {
         if i < slots.len() / 10 {
@@ -56,9 +53,9 @@ pub fn pose_at(marks: &[u32], slots: &[f32], i: usize) -> NodePose
     at_rest()
 }
 
-// A pose in which nothing is posed.
+// The resting pose: nothing is posed.
 pub fn at_rest() -> NodePose
-    ensures { λ r. ⌜ (poseOf r ≡ atRest) × (vec3 (r .translation) ≡ replicate 3 zero32) × (quat (r .rotation) ≡ replicate 4 zero32) × (vec3 (r .scale) ≡ replicate 3 zero32) ⌝ }
+    ensures { λ r. ⌜ r ≡ restingPose ⌝ }
 {
     let none = Vec3 {
         x: 0.0,

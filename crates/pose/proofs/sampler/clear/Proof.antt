@@ -5,6 +5,7 @@ use native.Mathlib.Omega.{arith}
 use borrow.Author.Needs.{needs}
 use denote.Ref.{now}
 use lib.ListN.{length}
+use Rattle.pose_slots.specs.Slots.{poseOf}
 use Rattle.pose.specs.Encoded.{rowsOf, clearedWords, clearedFloats}
 use Rattle.pose.proofs.ClearLaws.{clear-words, clear-floats}
 use Rattle.pose.proofs.sampler.clear.Statement.{statement}
@@ -33,8 +34,8 @@ loop-again c =
       omega arith,
       search needs,
       search needs,
-      clear-words (l .loop .i) _ (r .at-rest .ensures .0) (now (a .marks)) _ _ (l .loop .inv .3) (p .store-pose .ensures .0),
-      clear-floats (l .loop .i) _ (r .at-rest .ensures .0) (now (a .slots)) _ _ (l .loop .inv .4) (p .store-pose .ensures .1),
+      clear-words (l .loop .i) _ (ap poseOf (r .at-rest .ensures)) (now (a .marks)) _ _ (l .loop .inv .3) (p .store-pose .ensures .0),
+      clear-floats (l .loop .i) _ (ap poseOf (r .at-rest .ensures)) (now (a .slots)) _ _ (l .loop .inv .4) (p .store-pose .ensures .1),
     )
 
 returns : tie.Need-returns Inv-loop μ-loop

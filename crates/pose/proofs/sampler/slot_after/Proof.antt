@@ -10,6 +10,8 @@ use Rattle.model.specs.Pose.{Pose, drive}
 use Rattle.pose_slots.specs.Slots.{poseOf}
 use Rattle.pose_slots.specs.Channels.{channelIn}
 use Rattle.pose_slots.specs.Gifts.{bare}
+use Rattle.pose_slots.proofs.SlotLaws.{slot-pose}
+use Rattle.pose_slots.proofs.GiftLaws.{gift-pose}
 use Rattle.pose.proofs.sampler.slot_after.Statement.{statement}
 use Rattle.pose.proofs.sampler.slot_after.Tie as tie
 
@@ -20,7 +22,9 @@ returns c =
     let d = q .before .before in
     let a = d .before .before .before .before .args in
     let t = channelIn (now (a .floats)) (a .row) in (
-      r .receive .ensures ∙ sym (d .gift-at .ensures .pose (poseOf (q .pose-at .result))) ∙ ap (λ (p : Pose). bare (drive (a .time) p t)) (q .pose-at .ensures),
+      ap poseOf (r .receive .ensures) ∙ gift-pose (d .gift-at .result) (q .pose-at .result)
+          ∙ sym (d .gift-at .ensures .pose (poseOf (q .pose-at .result)))
+          ∙ ap (λ (p : Pose). bare (drive (a .time) p t)) (ap poseOf (q .pose-at .ensures) ∙ slot-pose (now (a .marks)) (now (a .slots)) (a .row .target)),
       c .word-after .ensures ∙ ap (λ (b : Bool). pick b (a .k + 1) (getD (now (a .marks)) (a .row .target * 4 + 3) 0)) (sym (d .gift-at .ensures .weights)),
     )
 

@@ -22,7 +22,7 @@ returns-2 c =
     let marks = now (s .args .marks) in
     let slots = now (s .args .slots) in
     let h : room marks slots ≤ s .args .i = ⊎-elim (λ w. omega arith) (λ w. omega arith) (c .before .if1 .came) in
-    c .at-rest .ensures .0 ∙ past-room marks slots (s .args .i) h
+    c .at-rest .ensures ∙ past-room marks slots (s .args .i) h
 
 pub pose-at-spec : {M : Type 1} → statement M
 pose-at-spec =

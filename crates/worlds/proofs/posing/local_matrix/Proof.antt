@@ -5,6 +5,8 @@ use denote.Ref.{now}
 use Rattle.model.specs.Transform.{toMatrix}
 use Rattle.model.specs.Pose.{localTransform}
 use Rattle.tables.specs.Decoded.{baseOf}
+use Rattle.pose_slots.specs.Slots.{poseOf}
+use Rattle.pose_slots.proofs.SlotLaws.{slot-pose}
 use Rattle.worlds.specs.Posed.{localIn}
 use Rattle.worlds.proofs.posing.local_matrix.Statement.{statement}
 use Rattle.worlds.proofs.posing.local_matrix.Tie as tie
@@ -14,8 +16,8 @@ unfolding localIn
 returns c =
     let a = c .before .before .before .before .before .before .before .before .before .args in
     let base = c .before .before .before .base-of .ensures ∙ ap (baseOf (now (a .floats))) (c .before .before .before .before .node-row .ensures) in
-    c .to-matrix .ensures
-    ∙ ap toMatrix (c .before .local-transform .ensures ∙ (λ j. localTransform ((c .before .before .pose-at .ensures) j) (base j)))
+    let pose = ap poseOf (c .before .before .pose-at .ensures) ∙ slot-pose (now (a .marks)) (now (a .slots)) (a .i) in
+    c .to-matrix .ensures ∙ ap toMatrix (c .before .local-transform .ensures ∙ (λ j. localTransform (pose j) (base j)))
 
 pub local-matrix-spec : {M : Type 1} → statement M
 local-matrix-spec =
