@@ -1,7 +1,7 @@
 -- A palette made of lent slots is the model's. Assumes nothing.
 use mathlib.Core.Path.{_≡_, refl, sym, ap, _∙_}
 use mathlib.Core.Logic.{_⊎_, inl, inr}
-use mathlib.Core.Bool.{Bool, true, false, _&&_, false≢true}
+use mathlib.Core.Bool.{Bool, true, false, _&&_, false≢true, true≢false}
 use mathlib.Core.List.{List, [], _∷_}
 use mathlib.Core.Option.{Option, none, some}
 use Prim.Native.Nat.{ℕ, zero, suc, _+_, _*_, _/_, _≤_, _<_}
@@ -11,14 +11,20 @@ use lib.Dec.{ltb, eqb}
 use lib.Ieee.{Float}
 use lib.ListN.{length, getD, replicate, length-replicate, getD-replicate}
 use Rattle.float.specs.F32.{zero32}
-use Rattle.model.specs.Lists.{pick, every, tabulate, part, row, rowsIn, isSome, andThen}
+use Rattle.model.specs.Lists.{pick, every, tabulate, part, row, rowsIn, isSome, andThen, mapSome}
 use Rattle.model.specs.Matrix.{Matrix, identity, mul}
 use Rattle.model.specs.Skin.{products, bindsOf, paletteOf}
 use Rattle.model.proofs.ListLaws.{length-tabulate, getD-tabulate}
 use Rattle.model.proofs.Tests.{both}
 use Rattle.scene.specs.Slots.{matrixIn}
 use Rattle.worlds.specs.Slots.{worldIn}
-use Rattle.skin.specs.Palette.{hasWorld, skeletonIn, bindIn, paletteIn}
+use Rattle.model.specs.SkinCalls.{skinPalette}
+use Rattle.tables.specs.declared.Header.{Header}
+use Rattle.tables.specs.Decoded.{sceneOf}
+use Rattle.checks.specs.Drawn.{lentAs}
+use Rattle.skin.specs.declared.Joints.{Joints}
+use Rattle.skin.specs.declared.Joints.the-variants as joints
+use Rattle.skin.specs.Palette.{numberOf, countOf, hasWorld, skeletonIn, bindIn, paletteIn, Counted}
 
 tabulate-alike : {A : Type 0} (n : ℕ) (f g : ℕ → A) → ((i : ℕ) → i < n → f i ≡ g i) → tabulate n f ≡ tabulate n g
 unfolding tabulate
@@ -143,3 +149,21 @@ module _ (n : ℕ) (codes : List ℕ) (slots : List Float) (js : List ℕ) (bind
       given : (b : Bool) → eqb (length binds / 16) 0 ≡ b → paletteOf world (skeletonIn js binds) ≡ some (paletteIn js binds slots)
       given true q = enough-then (inl (eqb-true _ _ q))
       given false q = some-given (ltb (length binds / 16) (length js)) refl (eqb-false _ _ q)
+
+-- ---- the answer of a count, by its cases
+
+numbered-by : (r : Joints) (p : Option (List Matrix)) → countOf r ≡ mapSome length p → numberOf r ≡ pick (isSome p) 0 9
+numbered-by (joints.Count n) none e = absurd (true≢false (ap isSome e))
+numbered-by (joints.Count n) (some m) e = refl
+numbered-by joints.Nothing none e = refl
+numbered-by joints.Nothing (some m) e = absurd (false≢true (ap isSome e))
+
+pub counted : (words : List ℕ) (floats : List Float) (h : Header) (k : ℕ) (codes : List ℕ) (r : Joints)
+    → ((nodeWeights meshWeights slots : List Float)
+    → countOf r ≡ mapSome length (skinPalette (worldIn (h .graph .nodes .count) codes slots) (sceneOf (lentAs words floats nodeWeights meshWeights h)) k))
+    → Counted words floats h k codes r
+counted words floats h k codes r f = record {
+  count = f;
+  numbered = λ n m slots.
+      numbered-by r (skinPalette (worldIn (h .graph .nodes .count) codes slots) (sceneOf (lentAs words floats n m h)) k) (f n m slots);
+}

@@ -7,7 +7,8 @@ use Prim.Native.Nat.{ℕ, _*_}
 use lib.Dec.{ltb, leb}
 use lib.Ieee.{Float}
 use lib.ListN.{length, getD, drop}
-use Rattle.model.specs.Lists.{pick, tabulate, rowsIn, joined, orElse, mapSome}
+use Rattle.model.specs.Lists.{pick, tabulate, rowsIn, joined, isSome, orElse, mapSome}
+use Rattle.model.specs.Refusals.{number, noPalette}
 use Rattle.model.specs.Matrix.{Matrix, identity, mul}
 use Rattle.model.specs.Scene.{Skeleton}
 use Rattle.model.specs.SkinCalls.{skinPalette}
@@ -19,6 +20,11 @@ use Rattle.checks.specs.Drawn.{lentAs}
 use Rattle.worlds.specs.Slots.{worldIn}
 use Rattle.skin.specs.declared.Joints.{Joints}
 use Rattle.skin.specs.declared.Joints.the-variants as joints
+
+-- an answer's number, 9 where no palette can be made, and its count
+abbrev pub numberOf : Joints → ℕ
+numberOf (joints.Count n) = 0
+numberOf joints.Nothing = number noPalette
 
 abbrev pub countOf : Joints → Option ℕ
 countOf (joints.Count n) = some n
@@ -44,10 +50,13 @@ paletteIn ids binds worlds = tabulate (length ids) (λ t. mul (matrixIn worlds (
 unfoldable pub laidOut : List Matrix → List Float → List Float
 laidOut p lent = pick (leb (length p * 16) (length lent)) (joined (λ m. m) p ++ drop (length p * 16) lent) lent
 
--- how long the palette of skin k is, whatever the worlds are
+-- whether there is a palette of skin k, and how long it is, whatever the worlds are
 pub record Counted (words : List ℕ) (floats : List Float) (h : Header) (k : ℕ) (codes : List ℕ) (r : Joints) : Type 0 where
   pub count : (nodeWeights meshWeights slots : List Float)
       → countOf r ≡ mapSome length (skinPalette (worldIn (h .graph .nodes .count) codes slots) (sceneOf (lentAs words floats nodeWeights meshWeights h)) k)
+  pub numbered : (nodeWeights meshWeights slots : List Float)
+      → numberOf r
+      ≡ pick (isSome (skinPalette (worldIn (h .graph .nodes .count) codes slots) (sceneOf (lentAs words floats nodeWeights meshWeights h)) k)) 0 (number noPalette)
 
 -- the palette of skin k, or nothing changed
 pub record Laid (words : List ℕ) (floats : List Float) (h : Header) (k : ℕ) (codes : List ℕ) (slots lent left : List Float) : Type 0 where

@@ -5,7 +5,7 @@ use crate::palette::write_palette;
 use skin_roots::wide;
 use tables::Header;
 ghost use mathlib.Core.Path.{_≡_};
-ghost use Rattle.checks.specs.Drawn.{lentAs};
+ghost use Rattle.checks.specs.Drawn.{sceneLent};
 ghost use Rattle.skin.specs.Calls.{NodeCounted, Judged, Answered};
 
 // How many joint matrices the palette of a node has.
@@ -42,7 +42,7 @@ fn judge(
     slots: usize,
     room: usize,
 ) -> Answer
-    ensures { λ r. ⌜ Judged (lentAs (now (words .entry)) (now (floats .entry)) (now («node_weights» .entry)) (now («mesh_weights» .entry)) h) node (now (places .entry)) slots room r ⌝ }
+    ensures { λ r. ⌜ Judged (sceneLent words floats «node_weights» «mesh_weights» h) node (now (places .entry)) slots room r ⌝ }
 {
     let drawn = checks::tables_number(words, floats, node_weights, mesh_weights, h);
     if drawn != 0 {
@@ -80,7 +80,7 @@ pub fn joint_matrices_with(
     worlds: &[f32],
     out: &mut [f32],
 ) -> Answer
-    ensures { λ r. ⌜ Answered (lentAs (now (words .entry)) (now (floats .entry)) (now («node_weights» .entry)) (now («mesh_weights» .entry)) h) node (now (places .entry)) (now (worlds .entry)) (now (out .entry)) (now (out .exit)) r ⌝ }
+    ensures { λ r. ⌜ Answered (sceneLent words floats «node_weights» «mesh_weights» h) node (now (places .entry)) (now (worlds .entry)) (now (out .entry)) (now (out .exit)) r ⌝ }
 {
     let answer = judge(
         words,
