@@ -6,8 +6,8 @@ use native.Mathlib.Omega.{arith}
 use lib.ListN.{length, replicate, length-replicate}
 use Rattle.model.specs.Lists.{sumOf}
 use Rattle.model.specs.Scene.{Scene, Node, nodeCount, childrenAt}
-use Rattle.placing.specs.Walk.{entriesOf}
-use Rattle.placing.specs.Bench.{Item, listedAs, itemAt, stackOf, waiting, childCounts, pending, Marks, State, takeOne, drained, Named, Ready, Started, Stepped, Drained}
+use Rattle.placing.specs.Walk.{entriesOf, Change}
+use Rattle.placing.specs.Bench.{Item, listedAs, itemAt, stackOf, waiting, childCounts, pending, Marks, State, takeOne, drained, Named, Ready, Started, Stepped}
 use Rattle.placing.proofs.Stack.{stack-length, stack-top, named-listed}
 use Rattle.placing.proofs.Unplaced.{free-all}
 use Rattle.placing.proofs.Taking.{drained-one, drained-none, one-less, still-named, still-left}
@@ -28,8 +28,8 @@ unfolding sumOf waiting
 all-to-come [] = refl
 all-to-come (n ∷ ns) = ap (λ (k : ℕ). length (n .children) + k) (all-to-come ns)
 
-module _ (s : Scene) (lent cleared walk : List ℕ) (top : ℕ) (nodes : nodeCount s ≡ length lent) (S : Started s lent cleared walk top) where
-  pub bound : entriesOf s ≡ pending s top cleared
+module _ (s : Scene) (codes room : Change) (top : ℕ) (S : Started s codes room top) (nodes : nodeCount s ≡ length (codes .lent)) where
+  pub bound : entriesOf s ≡ pending s top (codes .left)
   bound =
       omega (
         arith,
@@ -39,14 +39,15 @@ module _ (s : Scene) (lent cleared walk : List ℕ) (top : ℕ) (nodes : nodeCou
         ap (λ (k : ℕ). waiting (childCounts s) (replicate k 0)) nodes,
       )
 
-  pub roots-ready : (order : List ℕ) → length lent ≤ 1024 → length lent ≤ length order → 2 * entriesOf s ≤ length walk → Ready s walk cleared order top 0 × Named (stackOf walk top)
+  pub roots-ready : (order : List ℕ) → length (codes .lent) ≤ 1024 → length (codes .lent) ≤ length order → 2 * entriesOf s ≤ length (room .left)
+      → Ready s (room .left) (codes .left) order top 0 × Named (stackOf (room .left) top)
   roots-ready order few long room =
-      let same : length cleared ≡ length lent = ap length (S .places) ∙ length-replicate {A = ℕ} (length lent) 0 in (
+      let same : length (codes .left) ≡ length (codes .lent) = ap length (S .places) ∙ length-replicate {A = ℕ} (length (codes .lent)) 0 in (
         record {
           nodes = nodes ∙ sym same;
           few = omega arith;
           room = omega (arith, bound);
-          left = omega (arith, (λ j. waiting (replicate (same j) 1) (S .places j)) ∙ free-all (length lent));
+          left = omega (arith, (λ j. waiting (replicate (same j) 1) (S .places j)) ∙ free-all (length (codes .lent)));
         },
         subst Named (append-nil (listedAs 1 (s .roots)) ∙ sym (S .stack)) (named-listed 1 (s .roots) [] (omega arith) tt),
       )
@@ -110,7 +111,7 @@ module _ (s : Scene) (walk₀ : List ℕ) (top₀ : ℕ) (m₀ : Marks) (walk : 
 
 -- nothing is left to take
 pub at-last : (s : Scene) (walk₀ : List ℕ) (top₀ : ℕ) (m₀ : Marks) (walk : List ℕ) (top : ℕ) (m : Marks) (taken : ℕ) → Going s walk₀ top₀ m₀ walk top m taken → top ≡ 0
-    → Drained s walk₀ top₀ m₀ (record { marks = m; taken = taken })
+    → drained (pending s top₀ (m₀ .places)) (childrenAt s) (stackOf walk₀ top₀) m₀ 0 ≡ record { marks = m; taken = taken }
 unfolding stackOf
 at-last s walk₀ top₀ m₀ walk top m taken g z =
     sym (g .goes)

@@ -1,19 +1,17 @@
 -- The listing that the tables of nodes and roots say has the placing of the scene that all tables say. Assumes nothing.
 use mathlib.Core.Path.{_≡_, refl, sym, ap, _∙_}
-use mathlib.Core.List.{List, _++_, map}
 use Prim.Native.Nat.{ℕ, zero, suc, _+_, _<_}
 use native.Mathlib.Omega.{arith}
-use lib.ListN.{length, drop, replicate}
+use lib.ListN.{length, replicate}
 use Rattle.model.specs.Lists.{sumOf, tabulate}
 use Rattle.model.specs.Scene.{Scene, Node}
-use Rattle.model.specs.Placing.{Entry, unplaced, childEntries, order, placesFrom, places, taken}
+use Rattle.model.specs.Placing.{unplaced, childEntries, order, placesFrom, places, taken}
 use Rattle.model.specs.Agree.{SameListing}
 use Rattle.model.proofs.Listing.{order-agree, taken-agree}
-use Rattle.tables.specs.Codes.{codesOf}
 use Rattle.tables.specs.Records.{nodeRow}
 use Rattle.tables.specs.Decoded.{Lent, childrenIn, nodeOf, sceneOf}
 use Rattle.tables.proofs.Decoding as decoding
-use Rattle.placing.specs.Walk.{childList, listingIn, entriesOf, Walked}
+use Rattle.placing.specs.Walk.{childList, listingIn, entriesOf}
 use Rattle.placing.proofs.Stepping.{node-count, children-at}
 
 -- child entries of two tables of nodes with the same child lists
@@ -49,13 +47,3 @@ module _ (l : Lent) where
   pub room-linked : entriesOf listing ≡ length (sceneOf l .roots) + childEntries (sceneOf l)
   unfolding listingIn sceneOf
   room-linked = λ j. length (sceneOf l .roots) + same-entries (l .header .graph .nodes .count) (λ i. childList (childrenIn (l .words) (l .header .graph .nodes) i)) (λ i. nodeOf l (nodeRow (l .words) (l .header .graph .nodes) i)) (λ i. refl) j
-
-  -- what a run leaves, told of the scene
-  pub walked-linked : (lentPlaces leftPlaces lentOrder leftOrder : List ℕ) (n c : ℕ)
-      → Walked listing lentPlaces leftPlaces lentOrder leftOrder n c → Walked (sceneOf l) lentPlaces leftPlaces lentOrder leftOrder n c
-  walked-linked lentPlaces leftPlaces lentOrder leftOrder n c w = record {
-    places = w .places ∙ (λ j. codesOf (places-linked j) ++ drop (same-listing .count j) lentPlaces);
-    order = w .order ∙ (λ j. map (λ (e : Entry). e .node) (order-linked j) ++ drop (length (order-linked j)) lentOrder);
-    counted = w .counted ∙ ap length order-linked;
-    entries = w .entries ∙ taken-linked;
-  }

@@ -16,7 +16,7 @@ use Rattle.model.specs.Placing.{Place, unplaced, root, below, Entry, listed, is
 use Rattle.model.proofs.Walking.{Stands, InTurn, in-turn}
 use Rattle.model.proofs.Placed.{taken-is-counted}
 use Rattle.tables.specs.Codes.{codeOf, codesOf}
-use Rattle.placing.specs.Walk.{entriesOf, Walked}
+use Rattle.placing.specs.Walk.{entriesOf, Change, Wiped, Walked}
 use Rattle.placing.specs.Bench.{Item, listedAs, stackOf, waiting, Marks, State, takeOne, Ended, drained, Started, Drained}
 use Rattle.placing.proofs.Unplaced.{free-place, free-all}
 use Rattle.placing.proofs.Taking.{placed, dropped}
@@ -137,56 +137,60 @@ module _ (s : Scene) (lent : List ℕ) (nodes : nodeCount s ≡ length lent) whe
   steps = trace (start s) (s .roots) (childrenAt s) (childEntries s)
 
   -- where there are no nodes nothing is taken
-  pub walked-none : length lent ≡ 0 → (o : List ℕ) → Walked s lent lent o o 0 0
+  pub walked-none : length lent ≡ 0 → (room : Change) → Wiped room → (o : List ℕ) (n c : ℕ) → n ≡ 0 → c ≡ 0
+      → Walked s room (record { lent = lent; left = lent }) (record { lent = o; left = o }) n c
   unfolding taken order trace placedOf foldl
-  walked-none z o =
+  walked-none z room w o n c a b =
       let e : nodeCount s ≡ 0 = nodes ∙ z in
       let es : [] ≡ order s = λ j. placedOf (trace (replicate (sym e j) unplaced) (s .roots) (childrenAt s) (childEntries s)) in
       record {
+        walk = w;
         places = no-entry lent z ∙ (λ j. codesOf (placesFrom (replicate (sym e j) unplaced) (es j)) ++ sym (none-past lent (nodeCount s) nodes) j);
         order = λ j. map nodeOf (es j) ++ drop (length (es j)) o;
-        counted = ap length es;
-        entries = λ j. takenFrom (sym e j) (s .roots) (childrenAt s) (es j);
+        counted = b ∙ ap length es;
+        entries = a ∙ (λ j. takenFrom (sym e j) (s .roots) (childrenAt s) (es j));
       }
     where
       no-entry : (l : List ℕ) → length l ≡ 0 → l ≡ []
       no-entry [] h = refl
       no-entry (x ∷ l) h = absurd (omega arith)
 
-  module _ (some : length lent ≡ 0 → ⊥) (cleared room : List ℕ) (top : ℕ) (S : Started s lent cleared room top)
-      (o leftPlaces leftOrder : List ℕ) (n c : ℕ) (long : length lent ≤ length o)
-      (D : Drained s room top (record { places = cleared; order = o; placed = 0 }) (record { marks = record { places = leftPlaces; order = leftOrder; placed = c }; taken = n })) where
+  module _ (some : length lent ≡ 0 → ⊥) (cleared : List ℕ) (room : Change) (top : ℕ) (S : Started s (record { lent = lent; left = cleared }) room top)
+      (same : length (room .left) ≡ length (room .lent)) (o wiped leftPlaces leftOrder : List ℕ) (n c : ℕ) (long : length lent ≤ length o)
+      (D : Drained s (record { lent = room .left; left = wiped }) top (record { places = cleared; order = o; placed = 0 }) (record { marks = record { places = leftPlaces; order = leftOrder; placed = c }; taken = n })) where
     tables : codesOf (start s) ≡ cleared
     tables = sym (codes-start (nodeCount s)) ∙ ap (λ (k : ℕ). replicate k 0) nodes ∙ sym (S .places)
 
-    stack : map itemOf (listed root (s .roots)) ≡ stackOf room top
+    stack : map itemOf (listed root (s .roots)) ≡ stackOf (room .left) top
     stack = ap (map itemOf) (sym (append-nil (listed root (s .roots)))) ∙ sym (items-listed root (s .roots) []) ∙ append-nil (listedAs 1 (s .roots)) ∙ sym (S .stack)
 
     ended : told (childrenAt s) steps (start s) o 0 0 ≡ record { marks = record { places = leftPlaces; order = leftOrder; placed = c }; taken = n }
     ended =
         (λ j. told (childrenAt s) (sym (trace-is (start s) (s .roots) (childrenAt s) (childEntries s) (λ z. some (sym nodes ∙ sym (length-replicate (nodeCount s) unplaced) ∙ z))) j) (start s) o 0 0)
         ∙ sym (tells (childrenAt s) (entriesOf s) (listed root (s .roots)) (start s) o 0 0)
-        ∙ (λ j. drained (bound s lent cleared room top nodes S j) (childrenAt s) (stack j) (record { places = tables j; order = o; placed = 0 }) 0)
-        ∙ D
+        ∙ (λ j. drained (bound s _ room top S nodes j) (childrenAt s) (stack j) (record { places = tables j; order = o; placed = 0 }) 0)
+        ∙ D .ended
 
-    pub walked : Walked s lent leftPlaces o leftOrder n c
+    pub walked : Walked s (record { lent = room .lent; left = wiped }) (record { lent = lent; left = leftPlaces }) (record { lent = o; left = leftOrder }) n c
     unfolding order
     walked =
         let count : c ≡ length (order s) = omega (arith, ap (λ (x : Ended). x .marks .placed) ended) in
         let ids : List ℕ = map nodeOf (order s) in
-        let same : length ids ≡ length (order s) = length-map (order s) nodeOf in
+        let width : length ids ≡ length (order s) = length-map (order s) nodeOf in
         record {
+          walk = D .walk ∙ ap (λ (k : ℕ). replicate k 0) same;
           places = (λ j. sym ended j .marks .places) ∙ sym (append-nil (codesOf (places s))) ∙ (λ j. codesOf (places s) ++ sym (none-past lent (nodeCount s) nodes) j);
-          order = (λ j. sym ended j .marks .order) ∙ sets-eq ids o 0 (omega (arith, order-few s)) ∙ (λ j. ids ++ drop ((zero-add (length ids) ∙ same) j) o);
+          order = (λ j. sym ended j .marks .order) ∙ sets-eq ids o 0 (omega (arith, order-few s)) ∙ (λ j. ids ++ drop ((zero-add (length ids) ∙ width) j) o);
           counted = count;
           entries = omega (arith, ap (λ (x : Ended). x .taken) ended, taken-is-counted s);
         }
 
 -- ---- the first places of a longer slice
 
-pub of-part : (s : Scene) (lent : List ℕ) (n : ℕ) → nodeCount s ≡ n → n ≤ length lent → (left o leftOrder : List ℕ) (k c : ℕ)
-    → Walked s (take n lent) left o leftOrder k c → Walked s lent (left ++ drop n lent) o leftOrder k c
-of-part s lent n e h left o leftOrder k c w = record {
+pub of-part : (s : Scene) (lent : List ℕ) (n : ℕ) → nodeCount s ≡ n → n ≤ length lent → (left : List ℕ) (room ids : Change) (k c : ℕ)
+    → Walked s room (record { lent = take n lent; left = left }) ids k c → Walked s room (record { lent = lent; left = left ++ drop n lent }) ids k c
+of-part s lent n e h left room ids k c w = record {
+  walk = w .walk;
   places = (λ j. (w .places ∙ (λ i. codesOf (places s) ++ none-past (take n lent) (nodeCount s) (e ∙ sym (length-take-le n lent h)) i) ∙ append-nil (codesOf (places s))) j ++ drop (sym e j) lent);
   order = w .order;
   counted = w .counted;

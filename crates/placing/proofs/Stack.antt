@@ -1,13 +1,13 @@
 -- The stack in the lent room: what lies below a push stays, and a list that is pushed the last first lies with its first on top.
 -- Assumes nothing.
-use mathlib.Core.Path.{_≡_, refl, ap, _∙_}
+use mathlib.Core.Path.{_≡_, refl, sym, ap, _∙_}
 use mathlib.Core.List.{List, [], _∷_, _++_}
 use Prim.Native.Nat.{ℕ, zero, suc, _+_, _-_, _*_, _≤_, _<_}
 use native.Mathlib.Numerals.{add-one}
 use native.Mathlib.Omega.{arith}
-use lib.ListN.{length, getD, set, drop, length-set}
-use lib.Seq.{getD-set-same, getD-set-other, drop-cons, drop-length}
-use Rattle.placing.specs.Bench.{Item, listedAs, itemAt, stackOf, Named}
+use lib.ListN.{length, getD, set, take, drop, length-set, length-append, length-drop}
+use lib.Seq.{getD-set-same, getD-set-other, getD-at, getD-append-add, take-append-le, drop-cons, drop-length, paste, paste-suc}
+use Rattle.placing.specs.Bench.{Item, listedAs, itemAt, stackOf, wordsFor, Named}
 
 -- the two words of entry k
 abbrev written : List ℕ → ℕ → ℕ → ℕ → List ℕ
@@ -53,6 +53,47 @@ listed-none c l = ap (listedAs c) (drop-length l)
 pub listed-more : (c : ℕ) (l : List ℕ) (k j : ℕ) → suc k ≡ j → k < length l → listedAs c (drop k l) ≡ record { id = getD l k 0; code = c } ∷ listedAs c (drop j l)
 unfolding listedAs
 listed-more c l k j e h = ap (listedAs c) (drop-cons l k 0 h) ∙ ap (λ (i : ℕ). record { id = getD l k 0; code = c } ∷ listedAs c (drop i l)) e
+
+-- ---- the words of a push
+
+words-length : (c : ℕ) (l : List ℕ) → length (wordsFor c l) ≡ 2 * length l
+unfolding wordsFor
+words-length c [] = refl
+words-length c (x ∷ l) = omega (arith, length-append (wordsFor c l) (x ∷ c ∷ []), words-length c l)
+
+-- two words more of what is pasted
+two-more : (lent v : List ℕ) (at k x c : ℕ) → length v ≡ k → at + k + 1 < length lent
+    → set (set (paste lent at v k) (at + k) x) (at + k + 1) c ≡ paste lent at (v ++ (x ∷ c ∷ [])) (k + 2)
+two-more lent v at k x c e h =
+    let w = v ++ (x ∷ c ∷ []) in
+    let n : length w ≡ k + 2 = omega (arith, length-append v (x ∷ c ∷ [])) in
+    let start : take k v ≡ take k w = sym (take-append-le k v (x ∷ c ∷ []) (omega arith)) in
+    let first : x ≡ getD w k 0 = sym (getD-at v x (c ∷ []) 0 k e) in
+    let next : suc k ≡ length v + 1 = omega arith in
+    let second : c ≡ getD w (suc k) 0 = sym (ap (λ (i : ℕ). getD w i 0) next ∙ getD-append-add v (x ∷ c ∷ []) 1 0) in
+    let place : at + k + 1 ≡ at + suc k = omega arith in
+    let end : suc (suc k) ≡ k + 2 = omega arith in
+    (λ j. set (set (take at lent ++ start j ++ drop (at + k) lent) (at + k) (first j)) (place j) (second j))
+    ∙ ap (λ (l : List ℕ). set l (at + suc k) (getD w (suc k) 0)) (paste-suc lent at w k 0 (omega arith) (omega arith))
+    ∙ paste-suc lent at w (suc k) 0 (omega arith) (omega arith)
+    ∙ ap (paste lent at w) end
+
+-- one entry more
+pub words-more : (lent walk list : List ℕ) (c top at i k j : ℕ) → walk ≡ paste lent (2 * top) (wordsFor c (drop j list)) (2 * i)
+    → at ≡ top + i → suc k ≡ j → j + i ≡ length list → 2 * at + 1 < length lent
+    → set (set walk (2 * at) (getD list k 0)) (2 * at + 1) c ≡ paste lent (2 * top) (wordsFor c (drop k list)) (2 * (i + 1))
+unfolding wordsFor
+words-more lent walk list c top at i k j e a s n h =
+    let v = wordsFor c (drop j list) in
+    let x = getD list k 0 in
+    let width : length v ≡ 2 * i = omega (arith, words-length c (drop j list), length-drop j list) in
+    let place : 2 * at ≡ 2 * top + 2 * i = omega arith in
+    let end : 2 * i + 2 ≡ 2 * (i + 1) = omega arith in
+    let more : v ++ (x ∷ c ∷ []) ≡ wordsFor c (drop k list) =
+    ap (λ (m : ℕ). wordsFor c (x ∷ drop m list)) (sym s) ∙ sym (ap (wordsFor c) (drop-cons list k 0 (omega arith))) in
+    (λ r. set (set (e r) (place r) x) (place r + 1) c)
+    ∙ two-more lent v (2 * top) (2 * i) x c width (omega arith)
+    ∙ (λ r. paste lent (2 * top) (more r) (end r))
 
 pub stack-length : (walk : List ℕ) (n : ℕ) → length (stackOf walk n) ≡ n
 unfolding stackOf

@@ -4,8 +4,10 @@ use mathlib.Core.List.{List, [], _∷_, _++_, map}
 use Prim.Native.Nat.{ℕ, zero, suc, _+_, _-_, _*_, _≤_, _<_}
 use lib.Dec.{eqb}
 use lib.ListN.{length, getD, set, replicate}
+use lib.Seq.{paste}
 use Rattle.model.specs.Lists.{pick}
 use Rattle.model.specs.Scene.{Scene, Node, nodeCount, childrenAt}
+use Rattle.placing.specs.Walk.{Change, Wiped}
 
 -- an entry to take: an id, and the code of the place that it is listed for
 pub record Item : Type 0 where
@@ -23,6 +25,11 @@ itemAt walk k = record { id = getD walk (2 * k) 0; code = getD walk (2 * k + 1) 
 unfoldable pub stackOf : List ℕ → ℕ → List Item
 stackOf walk zero = []
 stackOf walk (suc k) = itemAt walk k ∷ stackOf walk k
+
+-- the words of a list that is pushed, the last first
+unfoldable pub wordsFor : ℕ → List ℕ → List ℕ
+wordsFor c [] = []
+wordsFor c (x ∷ xs) = wordsFor c xs ++ (x ∷ c ∷ [])
 
 -- of a number for each node, the sum over the nodes that are not placed
 unfoldable pub waiting : List ℕ → List ℕ → ℕ
@@ -82,21 +89,24 @@ pub record Ready (s : Scene) (walk places order : List ℕ) (top placed : ℕ) :
   pub room : 2 * pending s top places ≤ length walk
   pub left : placed + waiting (replicate (length places) 1) places ≤ length order
 
--- what a push leaves
-pub record Pushed (ids : List ℕ) (code : ℕ) (lent left : List ℕ) (top top′ : ℕ) : Type 0 where
+-- what a push leaves: the entries of the list from the top on, and the rest of the room as it was
+pub record Pushed (ids : List ℕ) (code : ℕ) (room : Change) (top top′ : ℕ) : Type 0 where
   pub higher : top′ ≡ top + length ids
-  pub stack : stackOf left top′ ≡ listedAs code ids ++ stackOf lent top
+  pub walk : room .left ≡ paste (room .lent) (2 * top) (wordsFor code ids) (2 * length ids)
+  pub stack : stackOf (room .left) top′ ≡ listedAs code ids ++ stackOf (room .lent) top
 
 -- what the start leaves: no node is placed, and the roots are on the stack
-pub record Started (s : Scene) (lentPlaces leftPlaces walk : List ℕ) (top : ℕ) : Type 0 where
-  pub places : leftPlaces ≡ replicate (length lentPlaces) 0
+pub record Started (s : Scene) (codes room : Change) (top : ℕ) : Type 0 where
+  pub places : Wiped codes
   pub higher : top ≡ length (s .roots)
-  pub stack : stackOf walk top ≡ listedAs 1 (s .roots)
+  pub walk : room .left ≡ paste (room .lent) 0 (wordsFor 1 (s .roots)) (2 * length (s .roots))
+  pub stack : stackOf (room .left) top ≡ listedAs 1 (s .roots)
 
 -- what a step leaves
 abbrev pub Stepped : Scene → List ℕ → ℕ → Marks → State → Type 0
 Stepped s walk top m after = takeOne (childrenAt s) (itemAt walk (top - 1)) (stackOf walk (top - 1)) m ≡ after
 
--- what is left where the stack is empty
-abbrev pub Drained : Scene → List ℕ → ℕ → Marks → Ended → Type 0
-Drained s walk top m after = drained (pending s top (m .places)) (childrenAt s) (stackOf walk top) m 0 ≡ after
+-- what is left where the stack is empty: the walk room wiped, and what is written
+pub record Drained (s : Scene) (room : Change) (top : ℕ) (m : Marks) (after : Ended) : Type 0 where
+  pub walk : Wiped room
+  pub ended : drained (pending s top (m .places)) (childrenAt s) (stackOf (room .lent) top) m 0 ≡ after

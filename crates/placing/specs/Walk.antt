@@ -4,7 +4,9 @@ use mathlib.Core.Path.{_≡_}
 use mathlib.Core.List.{List, [], _++_, map}
 use mathlib.Core.Option.{none}
 use Prim.Native.Nat.{ℕ, _+_}
-use lib.ListN.{length, drop}
+use lib.ListN.{length, drop, replicate}
+use denote.Ref.{RefT, now}
+use denote.Triple.Both.{Both}
 use Rattle.model.specs.Lists.{tabulate}
 use Rattle.model.specs.Scene.{Scene, Node, nodeCount}
 use Rattle.model.specs.Transform.{matrix}
@@ -35,10 +37,22 @@ listingIn words graph = record {
 abbrev pub entriesOf : Scene → ℕ
 entriesOf s = length (s .roots) + placing.childEntries s
 
--- What a run leaves: the code of each node's place, the placed nodes in order, how many these are, and how many entries were taken. What lies
--- past the nodes, and past the placed ones, is as it was lent.
-pub record Walked (s : Scene) (lentPlaces leftPlaces lentOrder leftOrder : List ℕ) (taken placed : ℕ) : Type 0 where
-  pub places : leftPlaces ≡ codesOf (placing.places s) ++ drop (nodeCount s) lentPlaces
-  pub order : leftOrder ≡ map (λ (e : placing.Entry). e .node) (placing.order s) ++ drop (length (placing.order s)) lentOrder
+-- a slice of words that a call may change: as it is lent, and as it is left
+pub record Change : Type 0 where
+  pub lent : List ℕ
+  pub left : List ℕ
+
+abbrev pub change : Both (RefT (List ℕ)) (RefT (List ℕ)) → Change
+change s = record { lent = now (s .entry); left = now (s .exit) }
+
+abbrev pub Wiped : Change → Type 0
+Wiped c = c .left ≡ replicate (length (c .lent)) 0
+
+-- What a run leaves: the walk room wiped, the code of each node's place, the placed nodes in order, how many these are, and how many entries were
+-- taken. What lies past the nodes, and past the placed ones, is as it was lent.
+pub record Walked (s : Scene) (room codes ids : Change) (taken placed : ℕ) : Type 0 where
+  pub walk : Wiped room
+  pub places : codes .left ≡ codesOf (placing.places s) ++ drop (nodeCount s) (codes .lent)
+  pub order : ids .left ≡ map (λ (e : placing.Entry). e .node) (placing.order s) ++ drop (length (placing.order s)) (ids .lent)
   pub counted : placed ≡ length (placing.order s)
   pub entries : taken ≡ placing.taken s

@@ -5,7 +5,7 @@ ghost use mathlib.Core.Path.{_≡_};
 ghost use Prim.Native.Nat.{_+_, _*_, _≤_, _<_};
 ghost use lib.ListN.{length};
 ghost use Rattle.tables.specs.Decoded.{childrenIn};
-ghost use Rattle.placing.specs.Walk.{rootsIn, listingIn, entriesOf, Walked};
+ghost use Rattle.placing.specs.Walk.{rootsIn, listingIn, entriesOf, change, Wiped, Walked};
 ghost use Rattle.placing.specs.Bench.{Named, stackOf, Ready, Pushed, Started, Stepped, Drained};
 
 // How many entries were taken, and how many nodes were placed.
@@ -23,7 +23,7 @@ struct Heights {
 // Pushes the ids of a list, the last first, all for one place. Returns the new top.
 fn push(list: &[u32], code: u32, walk: &mut [u32], top: usize) -> usize
     requires { ⌜ 2 * (top + length (now list)) ≤ length (now walk) ⌝ }
-    ensures { λ r. ⌜ Pushed (now (list .entry)) code (now (walk .entry)) (now (walk .exit)) top r ⌝ }
+    ensures { λ r. ⌜ Pushed (now (list .entry)) code (change walk) top r ⌝ }
 {
     let n = list.len();
     let mut at = top;
@@ -56,7 +56,12 @@ fn step(
 ) -> Heights
     requires { ⌜ Ready (listingIn (now words) graph) (now walk) (now places) (now order) (h .top) (h .placed) ⌝ }
     requires { ⌜ 0 < h .top ⌝ }
-    ensures { λ r. ⌜ Stepped (listingIn (now (words .entry)) graph) (now (walk .entry)) (h .top) (record { places = now (places .entry); order = now (order .entry); placed = h .placed }) (record { stack = stackOf (now (walk .exit)) (r .top); marks = record { places = now (places .exit); order = now (order .exit); placed = r .placed } }) ⌝ }
+    ensures { λ r. ⌜ Stepped (listingIn (now (words .entry)) graph) (now (walk .entry)) (h .top)
+        (record { places = now (places .entry); order = now (order .entry); placed = h .placed })
+        (record {
+          stack = stackOf (now (walk .exit)) (r .top);
+          marks = record { places = now (places .exit); order = now (order .exit); placed = r .placed };
+        }) ⌝ }
 {
     let t = h.top - 1;
     let n = h.placed;
@@ -74,7 +79,15 @@ fn step(
     Heights { top: t, placed: n }
 }
 
-// Takes entries until the stack is empty.
+// Ends a run: nothing waits in the walk room.
+fn finish(walk: &mut [u32], run: Run) -> Run
+    ensures { λ r. ⌜ (r ≡ run) × Wiped (change walk) ⌝ }
+{
+    tables::wipe_words(walk);
+    run
+}
+
+// Takes entries until the stack is empty, and wipes the room.
 fn drain(
     words: &[u32],
     graph: Graph,
@@ -85,7 +98,12 @@ fn drain(
 ) -> Run
     requires { ⌜ Ready (listingIn (now words) graph) (now walk) (now places) (now order) top 0 ⌝ }
     requires { ⌜ Named (stackOf (now walk) top) ⌝ }
-    ensures { λ r. ⌜ Drained (listingIn (now (words .entry)) graph) (now (walk .entry)) top (record { places = now (places .entry); order = now (order .entry); placed = 0 }) (record { marks = record { places = now (places .exit); order = now (order .exit); placed = r .placed }; taken = r .taken }) ⌝ }
+    ensures { λ r. ⌜ Drained (listingIn (now (words .entry)) graph) (change walk) top
+        (record { places = now (places .entry); order = now (order .entry); placed = 0 })
+        (record {
+          marks = record { places = now (places .exit); order = now (order .exit); placed = r .placed };
+          taken = r .taken;
+        }) ⌝ }
 {
     let mut h = Heights { top, placed: 0 };
     let mut taken: usize = 0;
@@ -93,16 +111,19 @@ fn drain(
         h = step(words, graph, walk, places, order, h);
         taken += 1;
     }
-    Run {
-        taken,
-        placed: h.placed,
-    }
+    finish(
+        walk,
+        Run {
+            taken,
+            placed: h.placed,
+        },
+    )
 }
 
 // No node is placed, and the roots are on the stack. Returns its top.
 fn start(words: &[u32], graph: Graph, walk: &mut [u32], places: &mut [u32]) -> usize
     requires { ⌜ 2 * length (rootsIn (now words) graph) ≤ length (now walk) ⌝ }
-    ensures { λ r. ⌜ Started (listingIn (now (words .entry)) graph) (now (places .entry)) (now (places .exit)) (now (walk .exit)) r ⌝ }
+    ensures { λ r. ⌜ Started (listingIn (now (words .entry)) graph) (change places) (change walk) r ⌝ }
 {
     tables::wipe_words(places);
     push(tables::words_in(words, graph.roots, 1), 1, walk, 0)
@@ -113,20 +134,24 @@ fn fill(words: &[u32], graph: Graph, walk: &mut [u32], places: &mut [u32], order
     requires { ⌜ graph .nodes .count ≡ length (now places) ⌝ }
     requires { ⌜ (graph .nodes .count ≤ 1024) × (graph .nodes .count ≤ length (now order)) ⌝ }
     requires { ⌜ 2 * entriesOf (listingIn (now words) graph) ≤ length (now walk) ⌝ }
-    ensures { λ r. ⌜ Walked (listingIn (now (words .entry)) graph) (now (places .entry)) (now (places .exit)) (now (order .entry)) (now (order .exit)) (r .taken) (r .placed) ⌝ }
+    ensures { λ r. ⌜ Walked (listingIn (now (words .entry)) graph) (change walk) (change places) (change order)
+        (r .taken) (r .placed) ⌝ }
 {
     if places.len() == 0 {
-        return Run {
-            taken: 0,
-            placed: 0,
-        };
+        return finish(
+            walk,
+            Run {
+                taken: 0,
+                placed: 0,
+            },
+        );
     }
     let top = start(words, graph, walk, places);
     drain(words, graph, walk, places, order, top)
 }
 
-// Places the nodes: the code of each node's place goes to `places`, the placed nodes in order to `order`. What `walk` holds
-// after that is not said.
+// Places the nodes: the code of each node's place goes to `places`, the placed nodes in order to `order`. Then nothing waits
+// in `walk`.
 pub fn place(
     words: &[u32],
     graph: Graph,
@@ -137,7 +162,8 @@ pub fn place(
     requires { ⌜ graph .nodes .count ≤ 1024 ⌝ }
     requires { ⌜ graph .nodes .count ≤ length (now places) ⌝ }
     requires { ⌜ 2 * entriesOf (listingIn (now words) graph) ≤ length (now walk) ⌝ }
-    ensures { λ r. ⌜ Walked (listingIn (now (words .entry)) graph) (now (places .entry)) (now (places .exit)) (now (order .entry)) (now (order .exit)) (r .taken) (r .placed) ⌝ }
+    ensures { λ r. ⌜ Walked (listingIn (now (words .entry)) graph) (change walk) (change places) (change order)
+        (r .taken) (r .placed) ⌝ }
 {
     let n = graph.nodes.count;
     fill(words, graph, walk, &mut places[..n], order)

@@ -41,7 +41,7 @@ pub fn place_all(
     let mut order = [0u32; 1024];
     let nodes = graph.nodes;
     let m = nodes.count * 16;
-    let run = posing::place_wiped(words, graph, walk, places, &mut order);
+    let run = placing::place(words, graph, walk, places, &mut order);
     let n = run.placed;
     posing::write_worlds(
         words,

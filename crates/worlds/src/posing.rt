@@ -1,15 +1,11 @@
 use crate::slots::place_one;
 use crate::slots::wide;
 use animation::Part;
-use placing::Run;
 use scene::Mat4;
-use tables::Graph;
 ghost use mathlib.Core.Path.{_≡_};
-ghost use Prim.Native.Nat.{_*_, _≤_};
 ghost use lib.ListN.{length, getD, replicate};
 ghost use Rattle.float.specs.F32.{zero32};
 ghost use Rattle.model.specs.Lists.{foldl};
-ghost use Rattle.placing.specs.Walk.{listingIn, entriesOf, Walked};
 ghost use Rattle.worlds.specs.Slots.{placedIn};
 ghost use Rattle.worlds.specs.Posed.{localIn};
 
@@ -75,22 +71,4 @@ pub(crate) fn write_worlds(
 {
     tables::wipe_floats(worlds);
     place_worlds(words, floats, nodes, marks, slots, places, order, worlds);
-}
-
-// Places the nodes; then nothing waits in the walk room.
-pub(crate) fn place_wiped(
-    words: &[u32],
-    graph: Graph,
-    walk: &mut [u32],
-    places: &mut [u32],
-    order: &mut [u32; 1024],
-) -> Run
-    requires { ⌜ graph .nodes .count ≤ 1024 ⌝ }
-    requires { ⌜ graph .nodes .count ≤ length (now places) ⌝ }
-    requires { ⌜ 2 * entriesOf (listingIn (now words) graph) ≤ length (now walk) ⌝ }
-    ensures { λ r. ⌜ Walked (listingIn (now (words .entry)) graph) (now (places .entry)) (now (places .exit)) (now (order .entry)) (now (order .exit)) (r .taken) (r .placed) × (now (walk .exit) ≡ replicate (length (now (walk .entry))) 0) ⌝ }
-{
-    let run = placing::place(words, graph, walk, places, order);
-    tables::wipe_words(walk);
-    run
 }

@@ -1,7 +1,10 @@
 -- `placing::drain` meets its contract: from where it stands the run ends as from the start. Assumes nothing.
-use mathlib.Core.Path.{_≡_, refl, _∙_}
+use mathlib.Core.Path.{_≡_, refl, sym, ap, _∙_}
+use Prim.Native.Nat.{ℕ}
 use native.Mathlib.Omega.{arith}
-use lib.ListN.{length}
+use borrow.Author.Needs.{needs}
+use lib.ListN.{length, replicate}
+use Rattle.placing.specs.declared.Run.{Run}
 use Rattle.placing.specs.Walk.{listingIn}
 use Rattle.placing.specs.Bench.{pending}
 use Rattle.placing.proofs.Going.{marks, Going, at-first, less, next, at-last}
@@ -38,17 +41,28 @@ loop-again c =
       p .kept .1 .1 .1 .1 .0 ∙ i .3,
     )
 
+finish-requires : tie.Need-finish-requires Inv-loop μ-loop
+finish-requires c κs = search needs
+
 same-length : tie.Need-same-length Inv-loop μ-loop
-same-length c = c .before .before .loop .inv .1
+same-length c = c .before .before .finish .kept .0 ∙ c .before .before .before .before .before .before .loop .inv .1
 
 same-length-2 : tie.Need-same-length-2 Inv-loop μ-loop
-same-length-2 c = c .before .before .loop .inv .2
+same-length-2 c = c .before .before .before .before .before .before .loop .inv .2
 
 same-length-3 : tie.Need-same-length-3 Inv-loop μ-loop
-same-length-3 c = c .before .before .loop .inv .3
+same-length-3 c = c .before .before .before .before .before .before .loop .inv .3
 
 returns : tie.Need-returns Inv-loop μ-loop
-returns c = at-last _ _ _ _ _ _ _ _ (c .before .before .loop .inv .0) (omega (arith, c .if1 .left))
+returns c =
+    let f = c .before .before .finish .ensures in
+    let l = c .before .before .before .before .before .before .loop in
+    record {
+      walk = f .1 ∙ ap (λ (n : ℕ). replicate n 0) (l .inv .1);
+      ended =
+          at-last _ _ _ _ _ _ _ _ (l .inv .0) (omega (arith, c .before .before .before .before .if1 .left))
+          ∙ ap (λ (r : Run). record { marks = marks (l .places) (l .order) (r .placed); taken = r .taken }) (sym (f .0));
+    }
 
 pub drain-spec : {M : Type 1} → statement M
 drain-spec =
@@ -61,6 +75,7 @@ drain-spec =
     add-taken
     loop-less
     loop-again
+    finish-requires
     same-length
     same-length-2
     same-length-3

@@ -1,12 +1,14 @@
 -- `placing::start` meets its contract. Assumes nothing.
 use mathlib.Core.Path.{ap, _∙_}
 use mathlib.Core.List.{List, append-nil}
-use Prim.Native.Nat.{ℕ}
+use Prim.Native.Nat.{ℕ, _*_}
 use native.Mathlib.Omega.{arith}
 use borrow.Author.Needs.{needs}
+use denote.Ref.{now}
 use lib.ListN.{length}
+use lib.Seq.{paste}
 use Rattle.placing.specs.Walk.{listingIn}
-use Rattle.placing.specs.Bench.{listedAs, stackOf}
+use Rattle.placing.specs.Bench.{listedAs, stackOf, wordsFor}
 use Rattle.placing.proofs.start.Statement.{statement}
 use Rattle.placing.proofs.start.Tie as tie
 
@@ -18,9 +20,11 @@ unfolding listingIn stackOf
 returns c =
     let p = c .before .before .push .ensures in
     let r = c .before .before .before .before .words-in .ensures in
+    let s = c .before .before .before .before .before .before .before .before .before .before .before .before in
     record {
       places = c .before .before .before .before .before .before .before .wipe-words .ensures;
       higher = omega (arith, p .higher, ap length r);
+      walk = p .walk ∙ ap (λ (l : List ℕ). paste (now (s .args .walk)) 0 (wordsFor 1 l) (2 * length l)) r;
       stack = p .stack ∙ append-nil _ ∙ ap (λ (l : List ℕ). listedAs 1 l) r;
     }
 

@@ -17,10 +17,10 @@ use Rattle.worlds.proofs.place_all.Statement.{statement}
 use Rattle.worlds.proofs.place_all.Tie as tie
 
 array-share-prefix-order : tie.Need-array-share-prefix-order
-array-share-prefix-order c = order-holds _ _ _ _ _ _ _ (c .before .before .before .before .before .place-wiped .ensures .0)
+array-share-prefix-order c = order-holds _ _ _ _ _ _ (c .before .before .before .before .before .place .ensures)
 
 slice-aggregate-write-worlds : tie.Need-slice-aggregate-write-worlds
-slice-aggregate-write-worlds c = sym (part-length _ _ _ _ _ _ _ (c .before .before .before .before .before .before .place-wiped .ensures .0))
+slice-aggregate-write-worlds c = sym (part-length _ _ _ _ _ _ (c .before .before .before .before .before .before .place .ensures))
 
 slice-aggregate-write-worlds-2 : tie.Need-slice-aggregate-write-worlds-2
 slice-aggregate-write-worlds-2 c = let s = c .before .before .before .before .before .before .before .before .before .before .before .before .before .before .before .before .before .before .before .before in sym (length-take-le _ (now (s .args .worlds)) (s .pre .1 .1))
@@ -29,19 +29,19 @@ returns : tie.Need-returns
 returns c =
     let s = c .before .before .before .before .before .before .before .before .before .before .before .before .before .before .before .before .before .before .before .before .before .before .before in
     let a = s .args in
-    let run = c .before .before .before .before .before .before .before .before .before .before .place-wiped .ensures in
+    let run = c .before .before .before .before .before .before .before .before .before .before .place .ensures in
     let m = a .graph .nodes .count * 16 in
     let n = node-count (now (a .words)) (a .graph) in
     let local = localIn (now (a .words)) (now (a .floats)) (a .graph .nodes) (now (a .marks)) (now (a .slots)) in
     record {
-      walk = run .1;
-      codes = run .0 .places;
+      walk = run .walk;
+      codes = run .places;
       floats =
           (λ j.
           (c .before .before .write-worlds .ensures
-          ∙ all-worlds _ _ _ _ _ _ _ (run .0) local _ (length-take-le m (now (a .worlds)) (s .pre .1 .1) ∙ sym (ap (λ (k : ℕ). k * 16) n))) j
+          ∙ all-worlds _ _ _ _ _ _ run local _ (length-take-le m (now (a .worlds)) (s .pre .1 .1) ∙ sym (ap (λ (k : ℕ). k * 16) n))) j
           ++ drop (ap (λ (k : ℕ). k * 16) (sym n) j) (now (a .worlds)));
-      entries = run .0 .entries;
+      entries = run .entries;
     }
 
 pub place-all-spec : {M : Type 1} → statement M
