@@ -1,4 +1,6 @@
 pub mod Digits
 pub mod Near
-pub mod Counts
+pub mod Compared
+pub mod Fields
+pub mod Checked
 pub mod Tallies

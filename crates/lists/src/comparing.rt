@@ -1,15 +1,21 @@
-// What was found beside what the input says is right.
+// What was found beside what the fields say is right.
 use crate::Agreement;
-use crate::reading::read_float;
-use crate::reading::read_word;
 ghost use mathlib.Core.Path.{_≡_};
-ghost use Rattle.lists.specs.Near.{nearBy};
+ghost use Rattle.lists.specs.Near.{sameBits, nearBy};
+ghost use Rattle.lists.specs.Compared.{oneMore, agreeing, ofLengths, compared, sameWords, sameFloats};
+
+// Whether two floats have equal bits.
+fn is_equal(x: f32, y: f32) -> bool
+    ensures { λ r. ⌜ r ≡ sameBits x y ⌝ }
+{
+    float::to_bits(x) == float::to_bits(y)
+}
 
 // Whether two floats have equal bits, or are less than `most` apart.
 pub fn is_near(x: f32, y: f32, most: f64) -> bool
     ensures { λ r. ⌜ r ≡ nearBy x y most ⌝ }
 {
-    if float::to_bits(x) == float::to_bits(y) {
+    if is_equal(x, y) {
         return true;
     }
     let gap = float::widen(x) - float::widen(y);
@@ -20,7 +26,9 @@ pub fn is_near(x: f32, y: f32, most: f64) -> bool
 }
 
 // One more. The counts stay below 2^31, far above the length of any list.
-fn after(n: u32) -> u32 {
+fn one_more(n: u32) -> u32
+    ensures { λ r. ⌜ r ≡ oneMore n ⌝ }
+{
     n % 0x8000_0000 + 1
 }
 
@@ -35,53 +43,74 @@ impl Agreement {
         }
     }
 
-    fn with(mut self, found: f32, expected: f32, most: f64) -> Self {
-        if is_near(found, expected, 0.0) {
-            self.equal = after(self.equal);
+    pub fn with(mut self, found: f32, expected: f32, most: f64) -> Self
+        ensures { λ r. ⌜ r ≡ agreeing self found expected most ⌝ }
+    {
+        if is_equal(found, expected) {
+            self.equal = one_more(self.equal);
         } else if is_near(found, expected, most) {
-            self.near = after(self.near);
+            self.near = one_more(self.near);
         } else {
-            self.differ = after(self.differ);
+            self.differ = one_more(self.differ);
         }
+        self
+    }
+
+    fn with_lengths(mut self, found: usize, expected: usize) -> Self
+        ensures { λ r. ⌜ r ≡ ofLengths self found expected ⌝ }
+    {
+        if found == expected {
+            return self;
+        }
+        self.differ = one_more(self.differ);
         self
     }
 }
 
-// Reads a list of floats, and counts how each agrees with what was found; a list of another length differs once more.
-pub fn compare(so_far: Agreement, found: &[f32], most: f64) -> Agreement {
-    let mut agreement = so_far;
-    let count = read_word() as usize;
-    if count != found.len() {
-        agreement.differ = after(agreement.differ);
-    }
+// Counts how each float agrees with the one of which the bits are expected; a list of another length differs once more.
+pub fn compare(so_far: Agreement, found: &[f32], expected: &[u32], most: f64) -> Agreement
+    ensures { λ r. ⌜ r ≡ compared «so_far» (now (found .entry)) (now (expected .entry)) most ⌝ }
+{
+    let mut agreement = so_far.with_lengths(found.len(), expected.len());
+    let n = wire::least(found.len(), expected.len());
     let mut i = 0;
-    while i < count {
-        let expected = read_float();
-        if i < found.len() {
-            agreement = agreement.with(found[i], expected, most);
-        }
+    while i < n {
+        agreement = agreement.with(found[i], float::from_bits(expected[i]), most);
         i += 1;
     }
     agreement
 }
 
-// Reads a list of floats, and answers whether it is what was found, by bits.
-pub fn floats_agree(found: &[f32]) -> bool {
-    let agreement = compare(Agreement::new(), found, 0.0);
-    agreement.differ == 0
-}
-
-// The same of words.
-pub fn words_agree(found: &[u32]) -> bool {
-    let count = read_word() as usize;
-    let mut same = count == found.len();
+// Whether floats are as many as expected, and each has the bits that are.
+pub fn floats_agree(found: &[f32], expected: &[u32]) -> bool
+    ensures { λ r. ⌜ r ≡ sameFloats (now (found .entry)) (now (expected .entry)) ⌝ }
+{
+    if found.len() != expected.len() {
+        return false;
+    }
     let mut i = 0;
-    while i < count {
-        let expected = read_word();
-        if i < found.len() {
-            same = same && found[i] == expected;
+    while i < found.len() {
+        if !is_equal(found[i], float::from_bits(expected[i])) {
+            return false;
         }
         i += 1;
     }
-    same
+    true
+}
+
+// Whether words are as many as expected, and each is the expected one.
+pub fn words_agree(found: &[u32], expected: &[u32]) -> bool
+    ensures { λ r. ⌜ r ≡ sameWords (now (found .entry)) (now (expected .entry)) ⌝ }
+{
+    if expected.len() != found.len() {
+        return false;
+    }
+    let mut i = 0;
+    while i < found.len() {
+        if found[i] != expected[i] {
+            return false;
+        }
+        i += 1;
+    }
+    true
 }

@@ -2,7 +2,7 @@ use crate::Tally;
 use crate::printing::text;
 use libc::STDOUT_FILENO;
 ghost use mathlib.Core.Path.{_≡_};
-ghost use Rattle.lists.specs.Tallies.{counted};
+ghost use Rattle.lists.specs.Tallies.{counted, allSame};
 
 impl Tally {
     pub fn new() -> Self
@@ -24,6 +24,13 @@ impl Tally {
             seen,
             differ: differ + 1,
         }
+    }
+
+    // Whether answers were seen and none of them differs.
+    pub fn all_same(self) -> bool
+        ensures { λ r. ⌜ r ≡ allSame self ⌝ }
+    {
+        (0 < self.seen) & (self.differ == 0)
     }
 
     pub fn print(self, what: &[u8]) {

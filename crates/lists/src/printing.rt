@@ -6,6 +6,15 @@ pub fn text(bytes: &[u8]) {
     io::write_all(STDOUT_FILENO, bytes);
 }
 
+// The last line of a program that compares: whether all was read, and all of it agrees.
+pub fn print_verdict(good: bool) {
+    if good {
+        text(b"OK\n");
+    } else {
+        text(b"FAILED\n");
+    }
+}
+
 // The nine places of a fraction of 1,000,000,000.
 fn print_places(fraction: u64) {
     let mut unit: u64 = 100_000_000;

@@ -1,49 +1,54 @@
-// Fields on standard input: eight hexadecimal digits with one byte behind them, which is not looked at. Past the end of the
-// input every field is 0. A list is its count and then its entries, a field each.
-use crate::fields::word;
+// Fields on standard input: eight hexadecimal digits with a blank or a line's end behind them.
+use crate::Input;
+use crate::digits::is_field;
+use crate::digits::word;
 use libc::STDIN_FILENO;
-ghost use Rattle.lists.specs.Counts.{Counts};
+ghost use Rattle.lists.specs.Fields.{Put};
 
-fn fill(field: &mut [u8; 9]) {
-    io::read_full(STDIN_FILENO, field);
+// What nine bytes of the input say: a word if they are a field; and whether the input has ended before them.
+struct Next {
+    word: u32,
+    is_field: bool,
+    is_end: bool,
 }
 
-fn word_in(field: &[u8; 9]) -> u32 {
-    word(field, 0)
+fn fill(text: &mut [u8; 9]) -> usize {
+    io::read_full(STDIN_FILENO, text)
 }
 
-pub fn read_word() -> u32 {
-    let mut field = [0u8; 9];
-    fill(&mut field);
-    word_in(&field)
-}
-
-pub fn read_float() -> f32 {
-    float::from_bits(read_word())
-}
-
-// Reads a list of words to the start of `out`, as far as there is room, and answers how many.
-pub fn read_words(out: &mut [u32]) -> usize
-    ensures { λ r. ⌜ Counts r (now (out .exit)) ⌝ }
-{
-    let n = wire::least(read_word() as usize, out.len());
-    let mut i = 0;
-    while i < n {
-        out[i] = read_word();
-        i += 1;
+fn next_in(text: &[u8; 9], count: usize) -> Next {
+    Next {
+        word: word(text, 0),
+        is_field: (count == 9) & is_field(text, 0),
+        is_end: count == 0,
     }
-    n
 }
 
-// The same of floats, by their bits.
-pub fn read_floats(out: &mut [f32]) -> usize
-    ensures { λ r. ⌜ Counts r (now (out .exit)) ⌝ }
+fn read_next() -> Next {
+    let mut text = [0u8; 9];
+    let count = fill(&mut text);
+    next_in(&text, count)
+}
+
+// Reads fields to the start of `out`, to the end of the input or as far as there is room.
+pub fn read_fields(out: &mut [u32]) -> Input
+    ensures { λ r. ⌜ Put (now (out .entry)) (now (out .exit)) (r .count) ⌝ }
 {
-    let n = wire::least(read_word() as usize, out.len());
-    let mut i = 0;
-    while i < n {
-        out[i] = read_float();
-        i += 1;
+    let mut n = 0;
+    while n < out.len() {
+        let next = read_next();
+        if !next.is_field {
+            return Input {
+                count: n,
+                whole: next.is_end,
+            };
+        }
+        out[n] = next.word;
+        n += 1;
     }
-    n
+    let next = read_next();
+    Input {
+        count: n,
+        whole: next.is_end,
+    }
 }

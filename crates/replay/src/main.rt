@@ -1,6 +1,7 @@
 // Replays a fixed list of the Rust's answers (made by `compare list` of harness/) and counts the answers that differ.
 // A line has 28 bytes: a letter, a blank, 16 hexadecimal digits of input, a blank, 8 of the answer, a line end.
-// s: a root, n: a narrowing, w: a turn weight (8 digits v, 8 digits c), within 2^-19 of the weight that slerp used.
+// s: a root, n: a narrowing, w: a turn weight (8 digits v, 8 digits c), within 2^-19 of the weight that slerp used. The last
+// line of the output is OK where the input is whole lines, every kind was seen and nothing differs, and FAILED otherwise.
 use libc::STDIN_FILENO;
 use lists::TURN_GAP;
 use lists::Tally;
@@ -17,6 +18,19 @@ fn weight_is_near(line: &[u8; 28], answer: u32) -> bool {
     let v = float::from_bits(lists::word(line, 2));
     let c = float::from_bits(lists::word(line, 10));
     lists::is_near(turn::turn_weight(v, c), float::from_bits(answer), TURN_GAP)
+}
+
+// Whether digits, blanks and the line's end stand where they should.
+fn is_line(line: &[u8; 28]) -> bool {
+    let blanks = (line[1] == b' ') & (line[18] == b' ') & (line[27] == b'\n');
+    blanks & lists::are_digits(line, 2, 16) & lists::are_digits(line, 19, 8)
+}
+
+fn letter_of(line: &[u8; 28]) -> u8 {
+    if is_line(line) {
+        return line[0];
+    }
+    0
 }
 
 // What was seen so far, by kind of line.
@@ -40,7 +54,7 @@ impl Report {
 
     fn with(mut self, line: &[u8; 28]) -> Self {
         let answer = lists::word(line, 19);
-        let letter = line[0];
+        let letter = letter_of(line);
         if letter == b's' {
             let tally = self.roots;
             self.roots = tally.with(root_is(line, answer));
@@ -57,7 +71,8 @@ impl Report {
         self
     }
 
-    fn print(self) {
+    // Answers whether every kind was seen, no answer differs and no line is unknown.
+    fn print(self) -> bool {
         let roots = self.roots;
         roots.print(b"square roots");
         let narrowed = self.narrowed;
@@ -66,24 +81,28 @@ impl Report {
         weights.print(b"turn weights");
         let unknown = self.unknown;
         unknown.print(b"unknown lines");
+        roots.all_same() & narrowed.all_same() & weights.all_same() & (unknown.seen == 0)
     }
 }
 
-// Reads a whole line, and answers whether there was one.
-fn read_line(line: &mut [u8; 28]) -> bool {
-    io::read_full(STDIN_FILENO, line) == 28
+// Reads a line, and answers how many of its bytes there were.
+fn read_line(line: &mut [u8; 28]) -> usize {
+    io::read_full(STDIN_FILENO, line)
 }
 
 fn main() {
     let mut report = Report::new();
     let mut line = [0u8; 28];
+    let mut count = read_line(&mut line);
     let mut left: u32 = 1_000_000;
     while 0 < left {
-        if !read_line(&mut line) {
+        if count != 28 {
             break;
         }
         report = report.with(&line);
+        count = read_line(&mut line);
         left -= 1;
     }
-    report.print();
+    let good = report.print();
+    lists::print_verdict(good & (count == 0));
 }

@@ -1,31 +1,28 @@
 // Replays a fixed list of the Rust's samples (made by `harness/run list samples > crates/replay_samples/stdin`, the format
 // is said in harness/compare/src/sampling/list.rs) through `animation::sample`, and counts the answers that differ: in a
-// bit or, of a Linear turn, by more than 2^-19. A line has 369 bytes, 41 fields of eight hexadecimal digits with a blank or
-// the line's end behind each.
+// bit or, of a Linear turn, by more than 2^-19. A line has 41 fields. The last line of the output is OK where the input is
+// whole, every kind of answer was seen and nothing differs, and FAILED otherwise.
 use animation::Interpolation;
 use animation::Kind;
 use animation::Part;
 use animation::SampledValue;
 use animation::Track;
-use libc::STDIN_FILENO;
 use lists::TURN_GAP;
 use lists::Tally;
+use lists::field;
+use lists::field_behind;
 use lists::is_near;
 
-fn field(line: &[u8; 369], k: usize) -> u32 {
-    lists::word(line, k % 41 * 9)
-}
-
-fn float_at(line: &[u8; 369], k: usize) -> f32 {
-    float::from_bits(field(line, k))
+fn float_behind(fields: &[u32], at: usize, k: usize) -> f32 {
+    float::from_bits(field_behind(fields, at, k))
 }
 
 // Keys and values.
-fn table(line: &[u8; 369]) -> [f32; 30] {
+fn table(fields: &[u32], at: usize) -> [f32; 30] {
     let mut floats = [0.0f32; 30];
     let mut i = 0;
     while i < 30 {
-        floats[i] = float_at(line, 11 + i);
+        floats[i] = float_behind(fields, at, 11 + i);
         i += 1;
     }
     floats
@@ -47,16 +44,16 @@ fn interpolation_of(n: u32) -> Interpolation {
     }
 }
 
-fn track(line: &[u8; 369]) -> Track {
-    let kind = kind_of(field(line, 0));
-    let interpolation = interpolation_of(field(line, 1));
+fn track(fields: &[u32], at: usize) -> Track {
+    let kind = kind_of(field(fields, at));
+    let interpolation = interpolation_of(field_behind(fields, at, 1));
     let keys = Part {
         at: 0,
-        count: field(line, 2) as usize,
+        count: field_behind(fields, at, 2) as usize,
     };
     let values = Part {
-        at: field(line, 2) as usize,
-        count: field(line, 3) as usize,
+        at: field_behind(fields, at, 2) as usize,
+        count: field_behind(fields, at, 3) as usize,
     };
     Track {
         kind,
@@ -76,14 +73,14 @@ struct Answer {
     d: f32,
 }
 
-fn expected(line: &[u8; 369]) -> Answer {
+fn expected(fields: &[u32], at: usize) -> Answer {
     Answer {
-        number: field(line, 5),
-        count: field(line, 6) as usize,
-        a: float_at(line, 7),
-        b: float_at(line, 8),
-        c: float_at(line, 9),
-        d: float_at(line, 10),
+        number: field_behind(fields, at, 5),
+        count: field_behind(fields, at, 6) as usize,
+        a: float_behind(fields, at, 7),
+        b: float_behind(fields, at, 8),
+        c: float_behind(fields, at, 9),
+        d: float_behind(fields, at, 10),
     }
 }
 
@@ -103,10 +100,15 @@ fn sampled(floats: &[f32; 30], t: Track, time: f32, out: &mut [f32; 4]) -> Sampl
     animation::sample(floats, t, time, out)
 }
 
-fn found(line: &[u8; 369]) -> Answer {
-    let floats = table(line);
+fn found(fields: &[u32], at: usize) -> Answer {
+    let floats = table(fields, at);
     let mut out = [0.0f32; 4];
-    match sampled(&floats, track(line), float_at(line, 4), &mut out) {
+    match sampled(
+        &floats,
+        track(fields, at),
+        float_behind(fields, at, 4),
+        &mut out,
+    ) {
         SampledValue::Vec3(v) => answered(0, 3, [v.x, v.y, v.z, 0.0]),
         SampledValue::Quat(q) => answered(0, 4, [q.x, q.y, q.z, q.w]),
         SampledValue::Scalar(n) => answered(0, n, out),
@@ -148,11 +150,11 @@ impl Report {
         }
     }
 
-    fn with(mut self, line: &[u8; 369]) -> Self {
-        let kind = field(line, 0);
-        let most = allowed(kind, field(line, 1));
-        let equal = same(expected(line), found(line), most);
-        if field(line, 5) != 0 {
+    fn with(mut self, fields: &[u32], at: usize) -> Self {
+        let kind = field(fields, at);
+        let most = allowed(kind, field_behind(fields, at, 1));
+        let equal = same(expected(fields, at), found(fields, at), most);
+        if field_behind(fields, at, 5) != 0 {
             let tally = self.none;
             self.none = tally.with(equal);
         } else if kind == 0 {
@@ -168,7 +170,8 @@ impl Report {
         self
     }
 
-    fn print(self) {
+    // Answers whether every kind was seen, and no answer differs.
+    fn print(self) -> bool {
         let vectors = self.vectors;
         vectors.print(b"Vec3 samples");
         let turns = self.turns;
@@ -177,24 +180,25 @@ impl Report {
         weights.print(b"weights");
         let none = self.none;
         none.print(b"uneven tracks");
+        vectors.all_same() & turns.all_same() & weights.all_same() & none.all_same()
     }
 }
 
-// Reads a whole line, and answers whether there was one.
-fn read_line(line: &mut [u8; 369]) -> bool {
-    io::read_full(STDIN_FILENO, line) == 369
+// Answers whether the fields are whole lines, and nothing differs.
+fn replay(fields: &[u32]) -> bool {
+    let mut report = Report::new();
+    let mut at = 0;
+    while at < fields.len() {
+        report = report.with(fields, at);
+        at = lists::ahead(fields, at, 41);
+    }
+    report.print() & (at == fields.len())
 }
 
 fn main() {
-    let mut report = Report::new();
-    let mut line = [0u8; 369];
-    let mut left: u32 = 1_000_000;
-    while 0 < left {
-        if !read_line(&mut line) {
-            break;
-        }
-        report = report.with(&line);
-        left -= 1;
-    }
-    report.print();
+    let mut fields = [0u32; 32_768];
+    let input = lists::read_fields(&mut fields);
+    let n = input.count;
+    let good = replay(&fields[..n]);
+    lists::print_verdict(input.whole & good);
 }

@@ -1,51 +1,78 @@
-// The calls on a scene, by their numbers in the list. Each is made with what is read, and answers whether all that it
-// answers and leaves is what is read.
+// The calls on a scene, by their numbers in the list. Each is made with what stands at a place, and all that it answers and
+// leaves is compared with the fields behind.
 use crate::nodes;
 use crate::skins;
 use crate::vertices;
+use lists::Checked;
 use tables::Header;
 
-fn bake_is_same<'a>(
+fn replay_bake<'a>(
+    fields: &[u32],
+    at: usize,
     words: &[u32],
     floats: &[f32],
     node_weights: &'a [f32],
     mesh_weights: &'a [f32],
     h: Header,
-) -> bool {
-    let outcome = scene_lists::replay_bake(words, floats, node_weights, mesh_weights, h);
-    outcome.told && outcome.floats.differ == 0
-}
-
-// The calls on one node, skin or mesh.
-fn is_same_of_one<'a>(
-    call: u32,
-    words: &[u32],
-    floats: &[f32],
-    node_weights: &'a [f32],
-    mesh_weights: &'a [f32],
-    h: Header,
-) -> bool {
-    match call {
-        3 => skins::palette_is_same(words, floats, node_weights, mesh_weights, h),
-        4 => skins::root_is_same(words, floats, node_weights, mesh_weights, h),
-        5 => skins::weights_are_same(words, floats, node_weights, mesh_weights, h),
-        6 => bake_is_same(words, floats, node_weights, mesh_weights, h),
-        _ => vertices::are_same(call, words, floats, h),
+) -> Checked {
+    let outcome = scene_lists::replay_bake(
+        fields,
+        at,
+        words,
+        floats,
+        node_weights,
+        mesh_weights,
+        h,
+    );
+    Checked {
+        same: outcome.told & (outcome.floats.differ == 0),
+        at: outcome.end,
     }
 }
 
-pub fn is_same<'a>(
+// The calls on one node, skin or mesh.
+fn replay_of_one<'a>(
     call: u32,
+    fields: &[u32],
+    at: usize,
     words: &[u32],
     floats: &[f32],
     node_weights: &'a [f32],
     mesh_weights: &'a [f32],
     h: Header,
-) -> bool {
+) -> Checked {
     match call {
-        0 => nodes::parents_are_same(words, floats, node_weights, mesh_weights, h),
-        1 => nodes::pose_is_same(words, floats, node_weights, mesh_weights, h),
-        2 => nodes::places_are_same(words, floats, node_weights, mesh_weights, h),
-        _ => is_same_of_one(call, words, floats, node_weights, mesh_weights, h),
+        3 => skins::check_palette(fields, at, words, floats, node_weights, mesh_weights, h),
+        4 => skins::check_root(fields, at, words, floats, node_weights, mesh_weights, h),
+        5 => skins::check_weights(fields, at, words, floats, node_weights, mesh_weights, h),
+        6 => replay_bake(fields, at, words, floats, node_weights, mesh_weights, h),
+        _ => vertices::check_vertices(call, fields, at, words, floats, h),
+    }
+}
+
+pub fn replay<'a>(
+    call: u32,
+    fields: &[u32],
+    at: usize,
+    words: &[u32],
+    floats: &[f32],
+    node_weights: &'a [f32],
+    mesh_weights: &'a [f32],
+    h: Header,
+) -> Checked {
+    match call {
+        0 => nodes::check_parents(fields, at, words, floats, node_weights, mesh_weights, h),
+        1 => nodes::check_pose(fields, at, words, floats, node_weights, mesh_weights, h),
+        2 => nodes::check_places(fields, at, words, floats, node_weights, mesh_weights, h),
+        _ => replay_of_one(
+            call,
+            fields,
+            at,
+            words,
+            floats,
+            node_weights,
+            mesh_weights,
+            h,
+        ),
     }
 }

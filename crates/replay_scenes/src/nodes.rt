@@ -1,34 +1,51 @@
 // The calls on all nodes: parents, pose and placing. Room is for eight nodes and 32 entries.
-use lists::floats_agree;
-use lists::words_agree;
+use lists::Checked;
+use lists::ahead;
+use lists::behind_list;
 use tables::Header;
+use worlds::Answer;
 
-fn parents_agree(
+fn check_parents_in(
+    fields: &[u32],
+    at: usize,
     words: &[u32],
     floats: &[f32],
     node_weights: &[f32],
     mesh_weights: &[f32],
     h: Header,
     out: &mut [u32],
-) -> bool {
+) -> Checked {
     let number = graph::parents(words, floats, node_weights, mesh_weights, h, out);
-    let told = lists::read_word() == number;
-    words_agree(out) && told
+    let told = Checked::new(at).number(fields, number as usize);
+    told.words(fields, out, 8)
 }
 
-pub fn parents_are_same(
+pub fn check_parents(
+    fields: &[u32],
+    at: usize,
     words: &[u32],
     floats: &[f32],
     node_weights: &[f32],
     mesh_weights: &[f32],
     h: Header,
-) -> bool {
+) -> Checked {
     let mut out = [0u32; 8];
-    let n = lists::read_words(&mut out);
-    parents_agree(words, floats, node_weights, mesh_weights, h, &mut out[..n])
+    let n = lists::read_words(fields, at, &mut out);
+    check_parents_in(
+        fields,
+        behind_list(fields, at, 8),
+        words,
+        floats,
+        node_weights,
+        mesh_weights,
+        h,
+        &mut out[..n],
+    )
 }
 
-fn pose_agrees(
+fn check_pose_in(
+    fields: &[u32],
+    at: usize,
     words: &[u32],
     floats: &[f32],
     node_weights: &[f32],
@@ -36,8 +53,8 @@ fn pose_agrees(
     h: Header,
     marks: &mut [u32],
     slots: &mut [f32],
-) -> bool {
-    let time = lists::read_float();
+) -> Checked {
+    let time = float::from_bits(lists::field(fields, at));
     let number = pose::sample_pose(
         words,
         floats,
@@ -48,23 +65,28 @@ fn pose_agrees(
         marks,
         slots,
     );
-    let told = lists::read_word() == number;
-    let marked = words_agree(marks);
-    floats_agree(slots) && marked && told
+    let told = Checked::new(ahead(fields, at, 1)).number(fields, number as usize);
+    let marked = told.words(fields, marks, 32);
+    marked.floats(fields, slots, 80)
 }
 
-pub fn pose_is_same(
+pub fn check_pose(
+    fields: &[u32],
+    at: usize,
     words: &[u32],
     floats: &[f32],
     node_weights: &[f32],
     mesh_weights: &[f32],
     h: Header,
-) -> bool {
+) -> Checked {
     let mut marks = [0u32; 32];
     let mut slots = [0.0f32; 80];
-    let m = lists::read_words(&mut marks);
-    let s = lists::read_floats(&mut slots);
-    pose_agrees(
+    let slots_at = behind_list(fields, at, 32);
+    let m = lists::read_words(fields, at, &mut marks);
+    let s = lists::read_floats(fields, slots_at, &mut slots);
+    check_pose_in(
+        fields,
+        behind_list(fields, slots_at, 80),
         words,
         floats,
         node_weights,
@@ -75,13 +97,24 @@ pub fn pose_is_same(
     )
 }
 
-fn is_told(answer: worlds::Answer) -> bool {
-    let number = lists::read_word();
-    let taken = lists::read_word() as usize;
-    number == answer.number && taken == answer.taken
+fn check_placed(
+    fields: &[u32],
+    at: usize,
+    answer: Answer,
+    walk: &[u32],
+    places: &[u32],
+    worlds: &[f32],
+) -> Checked {
+    let number = Checked::new(at).number(fields, answer.number as usize);
+    let told = number.number(fields, answer.taken);
+    let walked = told.words(fields, walk, 64);
+    let placed = walked.words(fields, places, 8);
+    placed.floats(fields, worlds, 128)
 }
 
-fn places_agree(
+fn check_places_in(
+    fields: &[u32],
+    at: usize,
     words: &[u32],
     floats: &[f32],
     node_weights: &[f32],
@@ -92,7 +125,7 @@ fn places_agree(
     walk: &mut [u32],
     places: &mut [u32],
     worlds: &mut [f32],
-) -> bool {
+) -> Checked {
     let answer = worlds::posed_node_transforms(
         words,
         floats,
@@ -105,13 +138,12 @@ fn places_agree(
         places,
         worlds,
     );
-    let told = is_told(answer);
-    let walked = words_agree(walk);
-    let placed = words_agree(places);
-    floats_agree(worlds) && placed && walked && told
+    check_placed(fields, at, answer, walk, places, worlds)
 }
 
-fn posed_places_are_same(
+fn check_posed_places(
+    fields: &[u32],
+    at: usize,
     words: &[u32],
     floats: &[f32],
     node_weights: &[f32],
@@ -119,14 +151,18 @@ fn posed_places_are_same(
     h: Header,
     marks: &[u32],
     slots: &[f32],
-) -> bool {
+) -> Checked {
     let mut walk = [0u32; 64];
     let mut places = [0u32; 8];
     let mut worlds = [0.0f32; 128];
-    let k = lists::read_words(&mut walk);
-    let p = lists::read_words(&mut places);
-    let w = lists::read_floats(&mut worlds);
-    places_agree(
+    let places_at = behind_list(fields, at, 64);
+    let worlds_at = behind_list(fields, places_at, 8);
+    let k = lists::read_words(fields, at, &mut walk);
+    let p = lists::read_words(fields, places_at, &mut places);
+    let w = lists::read_floats(fields, worlds_at, &mut worlds);
+    check_places_in(
+        fields,
+        behind_list(fields, worlds_at, 128),
         words,
         floats,
         node_weights,
@@ -140,18 +176,23 @@ fn posed_places_are_same(
     )
 }
 
-pub fn places_are_same(
+pub fn check_places(
+    fields: &[u32],
+    at: usize,
     words: &[u32],
     floats: &[f32],
     node_weights: &[f32],
     mesh_weights: &[f32],
     h: Header,
-) -> bool {
+) -> Checked {
     let mut marks = [0u32; 32];
     let mut slots = [0.0f32; 80];
-    let m = lists::read_words(&mut marks);
-    let s = lists::read_floats(&mut slots);
-    posed_places_are_same(
+    let slots_at = behind_list(fields, at, 32);
+    let m = lists::read_words(fields, at, &mut marks);
+    let s = lists::read_floats(fields, slots_at, &mut slots);
+    check_posed_places(
+        fields,
+        behind_list(fields, slots_at, 80),
         words,
         floats,
         node_weights,

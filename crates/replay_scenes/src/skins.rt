@@ -1,15 +1,13 @@
 // Palettes, skin roots and morph weights. Room is for eight nodes and four joints.
-use lists::floats_agree;
-use skin::Answer;
+use lists::Checked;
+use lists::ahead;
+use lists::behind_list;
+use lists::field;
 use tables::Header;
 
-fn is_told(answer: Answer) -> bool {
-    let number = lists::read_word();
-    let length = lists::read_word() as usize;
-    number == answer.number && length == answer.length
-}
-
-fn palette_agrees(
+fn check_palette_in(
+    fields: &[u32],
+    at: usize,
     words: &[u32],
     floats: &[f32],
     node_weights: &[f32],
@@ -18,8 +16,8 @@ fn palette_agrees(
     places: &[u32],
     worlds: &[f32],
     out: &mut [f32],
-) -> bool {
-    let node = lists::read_word();
+) -> Checked {
+    let node = field(fields, at);
     let answer = skin::joint_matrices_with(
         words,
         floats,
@@ -31,24 +29,31 @@ fn palette_agrees(
         worlds,
         out,
     );
-    let told = is_told(answer);
-    floats_agree(out) && told
+    let number = Checked::new(ahead(fields, at, 1)).number(fields, answer.number as usize);
+    let told = number.number(fields, answer.length);
+    told.floats(fields, out, 64)
 }
 
-pub fn palette_is_same(
+pub fn check_palette(
+    fields: &[u32],
+    at: usize,
     words: &[u32],
     floats: &[f32],
     node_weights: &[f32],
     mesh_weights: &[f32],
     h: Header,
-) -> bool {
+) -> Checked {
     let mut places = [0u32; 8];
     let mut worlds = [0.0f32; 128];
     let mut out = [0.0f32; 64];
-    let p = lists::read_words(&mut places);
-    let w = lists::read_floats(&mut worlds);
-    let n = lists::read_floats(&mut out);
-    palette_agrees(
+    let worlds_at = behind_list(fields, at, 8);
+    let out_at = behind_list(fields, worlds_at, 128);
+    let p = lists::read_words(fields, at, &mut places);
+    let w = lists::read_floats(fields, worlds_at, &mut worlds);
+    let n = lists::read_floats(fields, out_at, &mut out);
+    check_palette_in(
+        fields,
+        behind_list(fields, out_at, 64),
         words,
         floats,
         node_weights,
@@ -60,30 +65,33 @@ pub fn palette_is_same(
     )
 }
 
-pub fn root_is_same(
+pub fn check_root(
+    fields: &[u32],
+    at: usize,
     words: &[u32],
     floats: &[f32],
     node_weights: &[f32],
     mesh_weights: &[f32],
     h: Header,
-) -> bool {
-    let id = lists::read_word();
+) -> Checked {
+    let id = field(fields, at);
     let root = skin_roots::skin_root(words, floats, node_weights, mesh_weights, h, id);
-    let number = lists::read_word();
-    let node = lists::read_word();
-    number == root.number && node == root.node
+    let number = Checked::new(ahead(fields, at, 1)).number(fields, root.number as usize);
+    number.number(fields, root.node as usize)
 }
 
-pub fn weights_are_same<'a>(
+pub fn check_weights<'a>(
+    fields: &[u32],
+    at: usize,
     words: &[u32],
     floats: &[f32],
     node_weights: &'a [f32],
     mesh_weights: &'a [f32],
     h: Header,
-) -> bool {
-    let node = lists::read_word();
+) -> Checked {
+    let node = field(fields, at);
     let number = skin::weights_number(words, floats, node_weights, mesh_weights, h, node);
-    let told = lists::read_word() == number;
-    floats_agree(skin::effective_morph_weights(words, floats, node_weights, mesh_weights, h, node))
-        && told
+    let weights = skin::effective_morph_weights(words, floats, node_weights, mesh_weights, h, node);
+    let told = Checked::new(ahead(fields, at, 1)).number(fields, number as usize);
+    told.floats(fields, weights, 64)
 }

@@ -1,91 +1,150 @@
 // The calls on vertices in flat slices, of up to 64 floats each.
 use animation::Part;
-use lists::floats_agree;
+use lists::Checked;
+use lists::ahead;
+use lists::behind_list;
+use lists::field;
 use scene::Mat4;
 use tables::Header;
 
-fn agree(positions: &[f32], normals: &[f32], tangents: &[f32]) -> bool {
-    let moved = floats_agree(positions);
-    let turned = floats_agree(normals);
-    floats_agree(tangents) && turned && moved
+fn check_outputs(
+    fields: &[u32],
+    at: usize,
+    positions: &[f32],
+    normals: &[f32],
+    tangents: &[f32],
+) -> Checked {
+    let moved = Checked::new(at).floats(fields, positions, 64);
+    let turned = moved.floats(fields, normals, 64);
+    turned.floats(fields, tangents, 64)
 }
 
-fn transformed_agree(positions: &mut [f32], normals: &mut [f32], tangents: &mut [f32]) -> bool {
+fn check_transformed(
+    fields: &[u32],
+    at: usize,
+    positions: &mut [f32],
+    normals: &mut [f32],
+    tangents: &mut [f32],
+) -> Checked {
     let mut m = [0.0f32; 16];
-    lists::read_floats(&mut m);
+    lists::read_floats(fields, at, &mut m);
     transform::transformed(Mat4 { m }, positions, normals, tangents);
-    agree(positions, normals, tangents)
+    check_outputs(
+        fields,
+        behind_list(fields, at, 16),
+        positions,
+        normals,
+        tangents,
+    )
 }
 
-fn skinned_agree(positions: &mut [f32], normals: &mut [f32], tangents: &mut [f32]) -> bool {
+fn check_skinned(
+    fields: &[u32],
+    at: usize,
+    positions: &mut [f32],
+    normals: &mut [f32],
+    tangents: &mut [f32],
+) -> Checked {
     let mut palette = [0.0f32; 96];
-    let mut joints = [0u32; 64];
     let mut weights = [0.0f32; 64];
-    let p = lists::read_floats(&mut palette);
-    let j = lists::read_words(&mut joints);
-    let w = lists::read_floats(&mut weights);
+    let joints_at = behind_list(fields, at, 96);
+    let weights_at = behind_list(fields, joints_at, 64);
+    let p = lists::read_floats(fields, at, &mut palette);
+    let w = lists::read_floats(fields, weights_at, &mut weights);
     skinning::skinned(
         &palette[..p],
-        &joints[..j],
+        lists::list_at(fields, joints_at),
         &weights[..w],
         positions,
         normals,
         tangents,
     );
-    agree(positions, normals, tangents)
+    check_outputs(
+        fields,
+        behind_list(fields, weights_at, 64),
+        positions,
+        normals,
+        tangents,
+    )
 }
 
-fn morphed_agree(
+fn check_morphed(
+    fields: &[u32],
+    at: usize,
     words: &[u32],
     floats: &[f32],
     h: Header,
     positions: &mut [f32],
     normals: &mut [f32],
     tangents: &mut [f32],
-) -> bool {
-    let at = lists::read_word() as usize;
-    let count = lists::read_word() as usize;
+) -> Checked {
+    let first = field(fields, at) as usize;
+    let count = lists::field_behind(fields, at, 1) as usize;
+    let weights_at = ahead(fields, at, 2);
     let mut weights = [0.0f32; 16];
-    let w = lists::read_floats(&mut weights);
+    let w = lists::read_floats(fields, weights_at, &mut weights);
     mesh::morphed(
         words,
         floats,
         h,
-        Part { at, count },
+        Part { at: first, count },
         &weights[..w],
         positions,
         normals,
         tangents,
     );
-    agree(positions, normals, tangents)
+    check_outputs(
+        fields,
+        behind_list(fields, weights_at, 16),
+        positions,
+        normals,
+        tangents,
+    )
 }
 
-fn replayed_agree(
+// Past all fields where the call is not known: nobody knows how much stands behind it.
+fn check_vertices_in(
     call: u32,
+    fields: &[u32],
+    at: usize,
     words: &[u32],
     floats: &[f32],
     h: Header,
     positions: &mut [f32],
     normals: &mut [f32],
     tangents: &mut [f32],
-) -> bool {
+) -> Checked {
     match call {
-        7 => transformed_agree(positions, normals, tangents),
-        8 => skinned_agree(positions, normals, tangents),
-        9 => morphed_agree(words, floats, h, positions, normals, tangents),
-        _ => false,
+        7 => check_transformed(fields, at, positions, normals, tangents),
+        8 => check_skinned(fields, at, positions, normals, tangents),
+        9 => check_morphed(fields, at, words, floats, h, positions, normals, tangents),
+        _ => Checked {
+            same: false,
+            at: fields.len() + 1,
+        },
     }
 }
 
-pub fn are_same(call: u32, words: &[u32], floats: &[f32], h: Header) -> bool {
+pub fn check_vertices(
+    call: u32,
+    fields: &[u32],
+    at: usize,
+    words: &[u32],
+    floats: &[f32],
+    h: Header,
+) -> Checked {
     let mut positions = [0.0f32; 64];
     let mut normals = [0.0f32; 64];
     let mut tangents = [0.0f32; 64];
-    let p = lists::read_floats(&mut positions);
-    let n = lists::read_floats(&mut normals);
-    let t = lists::read_floats(&mut tangents);
-    replayed_agree(
+    let normals_at = behind_list(fields, at, 64);
+    let tangents_at = behind_list(fields, normals_at, 64);
+    let p = lists::read_floats(fields, at, &mut positions);
+    let n = lists::read_floats(fields, normals_at, &mut normals);
+    let t = lists::read_floats(fields, tangents_at, &mut tangents);
+    check_vertices_in(
         call,
+        fields,
+        behind_list(fields, tangents_at, 64),
         words,
         floats,
         h,

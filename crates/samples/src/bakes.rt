@@ -2,6 +2,7 @@
 use bake::Answer;
 use libc::STDOUT_FILENO;
 use lists::Agreement;
+use lists::Checked;
 use lists::text;
 use scene_lists::Outcome;
 use tables::Header;
@@ -49,29 +50,54 @@ fn print_vertex(v: usize, outcome: Outcome) {
     text(b"\n");
 }
 
-fn print_vertices(vertices: u32, outcome: Outcome) {
+fn print_vertices(vertices: usize, outcome: Outcome) {
     let mut v = 0;
     while v < vertices {
-        print_vertex(v as usize, outcome);
+        print_vertex(v, outcome);
         v += 1;
     }
 }
 
-// Answers whether nothing differs.
-pub fn replay<'a>(
-    words: &[u32],
-    floats: &[f32],
-    node_weights: &'a [f32],
-    mesh_weights: &'a [f32],
-    h: Header,
-) -> bool {
-    let outcome = scene_lists::replay_bake(words, floats, node_weights, mesh_weights, h);
-    let vertices = lists::read_word();
+// An output has room for 32 vertices.
+fn printed(vertices: u32) -> usize {
+    if 32 < vertices {
+        return 0;
+    }
+    vertices as usize
+}
+
+fn print_outcome(outcome: Outcome, vertices: u32) {
     print_answer(outcome.time, outcome.answer);
     print_agreement(outcome.floats);
     if !outcome.told {
         text(b"    the answer differs\n");
     }
-    print_vertices(vertices, outcome);
-    outcome.told && outcome.floats.differ == 0
+    print_vertices(printed(vertices), outcome);
+}
+
+// The bake at a place, with how many of its vertices are printed behind it.
+pub fn replay<'a>(
+    fields: &[u32],
+    at: usize,
+    words: &[u32],
+    floats: &[f32],
+    node_weights: &'a [f32],
+    mesh_weights: &'a [f32],
+    h: Header,
+) -> Checked {
+    let outcome = scene_lists::replay_bake(
+        fields,
+        at,
+        words,
+        floats,
+        node_weights,
+        mesh_weights,
+        h,
+    );
+    let vertices = lists::field(fields, outcome.end);
+    print_outcome(outcome, vertices);
+    Checked {
+        same: outcome.told & (outcome.floats.differ == 0) & (vertices <= 32),
+        at: lists::ahead(fields, outcome.end, 1),
+    }
 }

@@ -1,22 +1,92 @@
-// A bake, done and compared with the one that is read.
+// A bake, done and compared with the one that stands in the fields: the lists of positions, normals and tangents as they are
+// lent; node, time and whether a Linear turn is between its keys; the list of the walk room; the answer; the three lists as
+// they are left. An output has up to 96 floats, the walk room up to 64 words.
+use crate::Asked;
 use crate::Outcome;
 use bake::Answer;
 use lists::Agreement;
+use lists::ahead;
+use lists::behind_list;
+use lists::field;
+use lists::field_behind;
+use lists::list_at;
 use tables::Header;
+ghost use mathlib.Core.Path.{_≡_};
+ghost use Rattle.scene_lists.specs.Bakes.{behindOutputs, allowedOf, askedAt, answerAt, sameAnswer, outputsCompared};
 
-struct Asked {
-    node: u32,
-    time: f32,
-    // How far a float may lie from the Rust's.
-    most: f64,
+// Behind three lists.
+fn behind_outputs(fields: &[u32], at: usize) -> usize
+    ensures { λ r. ⌜ r ≡ behindOutputs (now (fields .entry)) at ⌝ }
+{
+    behind_list(
+        fields,
+        behind_list(fields, behind_list(fields, at, 96), 96),
+        96,
+    )
 }
 
-fn read_asked() -> Asked {
-    let node = lists::read_word();
-    let time = lists::read_float();
-    let turns = lists::read_word();
-    let most = if turns == 1 { lists::TURN_GAP } else { 0.0 };
+fn allowed(turns: u32) -> f64
+    ensures { λ r. ⌜ r ≡ allowedOf turns ⌝ }
+{
+    if turns == 1 {
+        return lists::TURN_GAP;
+    }
+    0.0
+}
+
+fn asked_at(fields: &[u32], at: usize) -> Asked
+    ensures { λ r. ⌜ r ≡ askedAt (now (fields .entry)) at ⌝ }
+{
+    let node = field(fields, at);
+    let time = float::from_bits(field_behind(fields, at, 1));
+    let most = allowed(field_behind(fields, at, 2));
     Asked { node, time, most }
+}
+
+// The answer that is right.
+fn answer_at(fields: &[u32], at: usize) -> Answer
+    ensures { λ r. ⌜ r ≡ answerAt (now (fields .entry)) at ⌝ }
+{
+    let number = field(fields, at);
+    let positions = field_behind(fields, at, 1) as usize;
+    let normals = field_behind(fields, at, 2) as usize;
+    let tangents = field_behind(fields, at, 3) as usize;
+    let taken = field_behind(fields, at, 4) as usize;
+    Answer {
+        number,
+        positions,
+        normals,
+        tangents,
+        taken,
+    }
+}
+
+pub fn is_told(a: Answer, expected: Answer) -> bool
+    ensures { λ r. ⌜ r ≡ sameAnswer a expected ⌝ }
+{
+    (a.number == expected.number)
+        & (a.positions == expected.positions)
+        & (a.normals == expected.normals)
+        & (a.tangents == expected.tangents)
+        & (a.taken == expected.taken)
+}
+
+// The three outputs as they are left, beside the lists from a place on.
+fn compare_outputs(
+    positions: &[f32],
+    normals: &[f32],
+    tangents: &[f32],
+    fields: &[u32],
+    at: usize,
+    most: f64,
+) -> Agreement
+    ensures { λ r. ⌜ r ≡ outputsCompared (now (positions .entry)) (now (normals .entry)) (now (tangents .entry)) (now (fields .entry)) at most ⌝ }
+{
+    let second = behind_list(fields, at, 96);
+    let third = behind_list(fields, second, 96);
+    let moved = lists::compare(Agreement::new(), positions, list_at(fields, at), most);
+    let turned = lists::compare(moved, normals, list_at(fields, second), most);
+    lists::compare(turned, tangents, list_at(fields, third), most)
 }
 
 // With room for the poses and worlds of eight nodes.
@@ -55,8 +125,10 @@ fn bake_in<'a>(
     )
 }
 
-// With the walk room that is read.
+// With the walk room at a place.
 fn bake_asked<'a>(
+    fields: &[u32],
+    at: usize,
     words: &[u32],
     floats: &[f32],
     node_weights: &'a [f32],
@@ -68,7 +140,7 @@ fn bake_asked<'a>(
     tangents: &mut [f32],
 ) -> Answer {
     let mut walk = [0u32; 64];
-    let w = lists::read_words(&mut walk);
+    let w = lists::read_words(fields, at, &mut walk);
     bake_in(
         words,
         floats,
@@ -83,42 +155,30 @@ fn bake_asked<'a>(
     )
 }
 
-// Whether the answer is the one that is read.
-fn is_told(a: Answer) -> bool {
-    let number = lists::read_word();
-    let positions = lists::read_word() as usize;
-    let normals = lists::read_word() as usize;
-    let tangents = lists::read_word() as usize;
-    let taken = lists::read_word() as usize;
-    let lengths = positions == a.positions && normals == a.normals && tangents == a.tangents;
-    number == a.number && lengths && taken == a.taken
-}
-
-fn compare(positions: &[f32], normals: &[f32], tangents: &[f32], most: f64) -> Agreement {
-    let moved = lists::compare(Agreement::new(), positions, most);
-    let turned = lists::compare(moved, normals, most);
-    lists::compare(turned, tangents, most)
-}
-
 struct Compared {
     answer: Answer,
     told: bool,
     floats: Agreement,
 }
 
-// In outputs as they are lent.
+// What is asked from a place on, in outputs as they are lent.
 fn replay_in<'a>(
+    fields: &[u32],
+    at: usize,
     words: &[u32],
     floats: &[f32],
     node_weights: &'a [f32],
     mesh_weights: &'a [f32],
     h: Header,
-    asked: Asked,
     positions: &mut [f32],
     normals: &mut [f32],
     tangents: &mut [f32],
 ) -> Compared {
+    let asked = asked_at(fields, at);
+    let walk = ahead(fields, at, 3);
     let answer = bake_asked(
+        fields,
+        walk,
         words,
         floats,
         node_weights,
@@ -129,8 +189,10 @@ fn replay_in<'a>(
         normals,
         tangents,
     );
-    let told = is_told(answer);
-    let floats = compare(positions, normals, tangents, asked.most);
+    let told_at = behind_list(fields, walk, 64);
+    let told = is_told(answer, answer_at(fields, told_at));
+    let left_at = ahead(fields, told_at, 5);
+    let floats = compare_outputs(positions, normals, tangents, fields, left_at, asked.most);
     Compared {
         answer,
         told,
@@ -138,8 +200,16 @@ fn replay_in<'a>(
     }
 }
 
-// Reads a bake, with outputs of up to 96 floats, does it and compares.
+// The place behind a bake of which what is asked stands at a place.
+fn behind_asked(fields: &[u32], at: usize) -> usize {
+    let told_at = behind_list(fields, ahead(fields, at, 3), 64);
+    behind_outputs(fields, ahead(fields, told_at, 5))
+}
+
+// Does the bake at a place and compares.
 pub fn replay_bake<'a>(
+    fields: &[u32],
+    at: usize,
     words: &[u32],
     floats: &[f32],
     node_weights: &'a [f32],
@@ -149,17 +219,19 @@ pub fn replay_bake<'a>(
     let mut positions = [0.0f32; 96];
     let mut normals = [0.0f32; 96];
     let mut tangents = [0.0f32; 96];
-    let p = lists::read_floats(&mut positions);
-    let n = lists::read_floats(&mut normals);
-    let t = lists::read_floats(&mut tangents);
-    let asked = read_asked();
+    let normals_at = behind_list(fields, at, 96);
+    let p = lists::read_floats(fields, at, &mut positions);
+    let n = lists::read_floats(fields, normals_at, &mut normals);
+    let t = lists::read_floats(fields, behind_list(fields, normals_at, 96), &mut tangents);
+    let asked_at = behind_outputs(fields, at);
     let compared = replay_in(
+        fields,
+        asked_at,
         words,
         floats,
         node_weights,
         mesh_weights,
         h,
-        asked,
         &mut positions[..p],
         &mut normals[..n],
         &mut tangents[..t],
@@ -167,11 +239,12 @@ pub fn replay_bake<'a>(
     let answer = compared.answer;
     let floats = compared.floats;
     Outcome {
-        time: asked.time,
+        time: float::from_bits(field_behind(fields, asked_at, 1)),
         answer,
         told: compared.told,
         floats,
         positions,
         normals,
+        end: behind_asked(fields, asked_at),
     }
 }

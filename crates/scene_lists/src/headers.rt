@@ -1,28 +1,39 @@
 // The header of a scene as it is lent (docs/TABLES.md): at and count of nine tables, in its order.
 use animation::Part;
-use lists::read_word;
+use lists::field_behind;
 use tables::Graph;
 use tables::Header;
 use tables::Meshes;
 use tables::Skins;
+ghost use mathlib.Core.Path.{_≡_};
+ghost use Prim.Native.Nat.{_<_};
+ghost use Rattle.scene_lists.specs.Scenes.{partAt, graphAt, meshesAt, skinsAt, headerAt};
 
-fn read_part() -> Part {
-    let at = read_word() as usize;
-    let count = read_word() as usize;
-    Part { at, count }
+// Table k.
+fn part_at(fields: &[u32], at: usize, k: usize) -> Part
+    requires { ⌜ k < 9 ⌝ }
+    ensures { λ r. ⌜ r ≡ partAt (now (fields .entry)) at k ⌝ }
+{
+    let from = field_behind(fields, at, 2 * k) as usize;
+    let count = field_behind(fields, at, 2 * k + 1) as usize;
+    Part { at: from, count }
 }
 
-fn read_graph() -> Graph {
-    let nodes = read_part();
-    let roots = read_part();
+fn graph_at(fields: &[u32], at: usize) -> Graph
+    ensures { λ r. ⌜ r ≡ graphAt (now (fields .entry)) at ⌝ }
+{
+    let nodes = part_at(fields, at, 0);
+    let roots = part_at(fields, at, 1);
     Graph { nodes, roots }
 }
 
-fn read_meshes() -> Meshes {
-    let meshes = read_part();
-    let primitives = read_part();
-    let targets = read_part();
-    let in_betweens = read_part();
+fn meshes_at(fields: &[u32], at: usize) -> Meshes
+    ensures { λ r. ⌜ r ≡ meshesAt (now (fields .entry)) at ⌝ }
+{
+    let meshes = part_at(fields, at, 3);
+    let primitives = part_at(fields, at, 4);
+    let targets = part_at(fields, at, 5);
+    let in_betweens = part_at(fields, at, 6);
     Meshes {
         meshes,
         primitives,
@@ -31,17 +42,21 @@ fn read_meshes() -> Meshes {
     }
 }
 
-fn read_skins() -> Skins {
-    let skins = read_part();
-    let skeletons = read_part();
+fn skins_at(fields: &[u32], at: usize) -> Skins
+    ensures { λ r. ⌜ r ≡ skinsAt (now (fields .entry)) at ⌝ }
+{
+    let skins = part_at(fields, at, 7);
+    let skeletons = part_at(fields, at, 8);
     Skins { skins, skeletons }
 }
 
-pub fn read_header() -> Header {
-    let graph = read_graph();
-    let channels = read_part();
-    let meshes = read_meshes();
-    let skins = read_skins();
+pub fn header_at(fields: &[u32], at: usize) -> Header
+    ensures { λ r. ⌜ r ≡ headerAt (now (fields .entry)) at ⌝ }
+{
+    let graph = graph_at(fields, at);
+    let channels = part_at(fields, at, 2);
+    let meshes = meshes_at(fields, at);
+    let skins = skins_at(fields, at);
     Header {
         graph,
         channels,

@@ -4,10 +4,10 @@ use Rattle.replay_scenes.proofs.replay_calls.Statement.{statement}
 use Rattle.replay_scenes.proofs.replay_calls.Tie as tie
 
 abbrev Inv-loop : tie.InvT-loop
-Inv-loop words floats node-weights mesh-weights h report₀ left₀ report left = Unit {0}
+Inv-loop fields at words floats node-weights mesh-weights h report₀ left₀ report left = Unit {0}
 
 abbrev μ-loop : tie.MeasureT-loop
-μ-loop words floats node-weights mesh-weights h report₀ left₀ report left = left
+μ-loop fields at words floats node-weights mesh-weights h report₀ left₀ report left = left
 
 pub replay-calls-spec : {M : Type 1} → statement M
 replay-calls-spec =
@@ -16,10 +16,13 @@ replay-calls-spec =
     Inv-loop
     μ-loop
     (λ c κs. search needs)
+    (λ c κs. search needs)
     (λ c. search needs)
     (λ c κs. search needs)
     (λ c κs. search needs)
     (λ c κs. search needs)
+    (λ c κs. search needs)
+    (λ c. search needs)
     (λ c. search needs)
     (λ c. search needs)
     (λ c. search needs)

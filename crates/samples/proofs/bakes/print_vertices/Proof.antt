@@ -17,7 +17,6 @@ print-vertices-spec =
     Inv-loop
     μ-loop
     (λ c. search needs)
-    (λ c. search needs)
     (λ c κs. search needs)
     (λ c. search needs)
     (λ c. search needs)

@@ -1,0 +1,17 @@
+-- `scene_lists::headers::header_at` meets its contract. Assumes nothing.
+use borrow.Author.Needs.{needs}
+use Rattle.scene_lists.proofs.headers.header_at.Statement.{statement}
+use Rattle.scene_lists.proofs.headers.header_at.Tie as tie
+
+returns : tie.Need-returns
+returns c = cc
+
+pub header-at-spec : {M : Type 1} → statement M
+header-at-spec =
+    tie.close
+    (tie.spec
+    (λ c κs. search needs)
+    (λ c κs. search needs)
+    (λ c κs. search needs)
+    (λ c κs. search needs)
+    returns)
