@@ -4,7 +4,7 @@ ghost use mathlib.Core.Path.{_≡_};
 ghost use mathlib.Core.List.{map, zipWith};
 ghost use lib.Ieee.{binary32};
 ghost use Rattle.float.specs.Narrow.{narrowOf};
-ghost use Rattle.float.specs.Normal.{allNormal};
+ghost use Rattle.square_root.specs.Normal.{allNormal};
 ghost use Rattle.float.specs.Sqrt.{sqrtOf};
 ghost use Rattle.turn.specs.Weight.{weight};
 ghost use Rattle.model.specs.Written.{Wrote};
@@ -17,7 +17,7 @@ pub extern "C" fn sqrt_all(xs: &[f32], out: &mut [f32]) -> usize
     let n = wire::least(xs.len(), out.len());
     let mut i = 0;
     while i < n {
-        out[i] = float::sqrt(xs[i]);
+        out[i] = square_root::sqrt(xs[i]);
         i += 1;
     }
     n
@@ -57,7 +57,7 @@ pub extern "C" fn sqrt_block(xs: &[f32; 16], out: &mut [f32; 16]) -> bool
     ensures { λ r. ⌜ (now (out .exit) ≡ map (sqrtOf binary32) (now (xs .entry))) × (r ≡ allNormal (now (xs .entry))) ⌝ }
 {
     let of = *xs;
-    let r = float::sqrt_block(float::Block { of });
+    let r = square_root::sqrt_block(square_root::Block { of });
     let s = r.of;
     *out = s;
     r.normal

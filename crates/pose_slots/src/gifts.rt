@@ -21,7 +21,7 @@ ghost use Rattle.pose_slots.specs.Gifts.{withGift, Gives};
 fn length4(q: Quat) -> f32
     ensures { λ r. ⌜ r ≡ norm (quat q) ⌝ }
 {
-    float::sqrt(q.x * q.x + q.y * q.y + q.z * q.z + q.w * q.w)
+    square_root::sqrt(q.x * q.x + q.y * q.y + q.z * q.z + q.w * q.w)
 }
 
 // A rotation of length 1, where there is a length to divide by.

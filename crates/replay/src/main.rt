@@ -7,7 +7,7 @@ use lists::TURN_GAP;
 use lists::Tally;
 
 fn root_is(line: &[u8; 28], answer: u32) -> bool {
-    float::to_bits(float::sqrt(float::from_bits(lists::word(line, 10)))) == answer
+    float::to_bits(square_root::sqrt(float::from_bits(lists::word(line, 10)))) == answer
 }
 
 fn narrowed_is(line: &[u8; 28], answer: u32) -> bool {

@@ -194,7 +194,7 @@ fn from_z(a: Vec3, b: Vec3, c: Vec3, s: f32) -> Quat
 fn twice_root(x: f32) -> f32
     ensures { λ r. ⌜ r ≡ twiceRoot x ⌝ }
 {
-    float::sqrt(x) * 2.0
+    square_root::sqrt(x) * 2.0
 }
 
 // The quaternion of a rotation by its columns: by the trace where that is above 0, else by the largest number on the

@@ -10,7 +10,7 @@ ghost use Rattle.scene.specs.Values.{vec3, mat3, unitOf};
 pub fn vec3_len(v: Vec3) -> f32
     ensures { λ r. ⌜ r ≡ norm (vec3 v) ⌝ }
 {
-    float::sqrt(v.x * v.x + v.y * v.y + v.z * v.z)
+    square_root::sqrt(v.x * v.x + v.y * v.y + v.z * v.z)
 }
 
 // v divided by its length, where that is finite and above 0.

@@ -13,7 +13,7 @@ use lib.Ieee.{Float, nan, binary32}
 use lib.ListN.{length, getD, take, drop, take-append-drop, length-append, length-take, length-drop}
 use lib.Seq.{paste, take-all, take-take, drop-drop, drop-paste, drop-append-le}
 use Rattle.float.specs.Sqrt.{sqrtOf}
-use Rattle.float.specs.Normal.{allNormal}
+use Rattle.square_root.specs.Normal.{allNormal}
 use Rattle.model.specs.Lists.{pick, orElse, part, row, rowsIn}
 use Rattle.model.specs.Vector.{Vector, over, norm, normalized}
 use Rattle.model.specs.Matrix.{turned}

@@ -11,9 +11,9 @@ use lib.ListN.{length, getD, set, take, drop, take-append-drop, length-drop, len
 use lib.Seq.{paste, ext-getD, take-all, take-at, drop-at, drop-drop, drop-paste, take-append-le, drop-append-le, length-take-le}
 use Rattle.float.specs.F32.{zero32}
 use Rattle.float.specs.Sqrt.{sqrtOf}
-use Rattle.float.specs.Normal.{isNormal, allNormal}
-use Rattle.float.proofs.Normals.{normal-root, each-normal}
-use Rattle.float.proofs.Lanes.{set-next}
+use Rattle.square_root.specs.Normal.{isNormal, allNormal}
+use Rattle.square_root.proofs.Normals.{normal-root, each-normal}
+use Rattle.square_root.proofs.Lanes.{set-next}
 use Rattle.model.specs.Lists.{part, row}
 use Rattle.model.specs.Vector.{Vector, dot, norm}
 use Rattle.model.proofs.ListLaws.{length-tabulate, getD-tabulate}

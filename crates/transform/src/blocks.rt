@@ -6,9 +6,9 @@ use crate::packed::gather_turned;
 use crate::packed::squares;
 use crate::packed::turn;
 use crate::packed::units;
-use float::Roots;
 use scene::Mat3;
 use scene::Vec3;
+use square_root::Roots;
 use vertex_rows::load3;
 use vertex_rows::store3;
 ghost use mathlib.Core.Path.{_≡_};
@@ -83,7 +83,7 @@ pub fn put_units(d: &mut [f32; 48], w: usize, s: &mut [f32], k: usize)
     requires { ⌜ (3 ≤ w) × ((k + 16) * w ≤ length (now s)) ⌝ }
     ensures { λ _. ⌜ now (s .exit) ≡ rowsFrom w (λ i. unitOver (row 3 (now (d .entry)) i)) k (now (s .entry)) 16 ⌝ }
 {
-    let r = float::sqrt_block(squares(d));
+    let r = square_root::sqrt_block(squares(d));
     if r.normal {
         units(d, r);
         put(d, w, s, k);
@@ -101,7 +101,7 @@ fn turn_normal_block(l: Mat3, normals: &mut [f32], k: usize)
     ensures { λ _. ⌜ now (normals .exit) ≡ rowsFrom 3 (λ _. xyzTurned (mat3 l)) k (now (normals .entry)) 16 ⌝ }
 {
     let mut d = [0.0f32; 48];
-    let r = float::sqrt_block(gather_turned(l, 3, normals, k, &mut d));
+    let r = square_root::sqrt_block(gather_turned(l, 3, normals, k, &mut d));
     if r.normal {
         units(&mut d, r);
         put(&d, 3, normals, k);
@@ -117,7 +117,7 @@ fn turn_tangent_block(l: Mat3, tangents: &mut [f32], k: usize, d: &mut [f32; 48]
     ensures { λ _. ⌜ now (tangents .exit) ≡ rowsFrom 4 (λ _. xyzTurned (mat3 l)) k (now (tangents .entry)) 16 ⌝ }
 {
     gather(4, tangents, k, d);
-    let r = float::sqrt_block(turn(l, d));
+    let r = square_root::sqrt_block(turn(l, d));
     if r.normal {
         units(d, r);
         put(d, 4, tangents, k);

@@ -1,9 +1,9 @@
 // Sixteen directions, copied out of their rows: three floats each, one after the other. Short loops over packed floats
 // run in vector lanes.
-use float::Block;
-use float::Roots;
 use scene::Mat3;
 use scene::Vec3;
+use square_root::Block;
+use square_root::Roots;
 use vertex_rows::load3;
 use vertex_rows::store3;
 ghost use mathlib.Core.Path.{_≡_};

@@ -16,7 +16,7 @@ fn root(x: f32) {
     text(b"sqrt(");
     print_float(x);
     text(b") = ");
-    print_float(float::sqrt(x));
+    print_float(square_root::sqrt(x));
     text(b"\n");
 }
 
