@@ -5,7 +5,7 @@ use native.Mathlib.Numerals.{add-one}
 use native.Mathlib.Omega.{arith}
 use borrow.Author.Tests.{lt-ltb, le-ltb}
 use Rattle.model.specs.Lists.{pick}
-use Rattle.checks.specs.Drawn.{lowerOf, lowestBelow, sumBelow}
+use Rattle.checks.specs.Drawn.{entryCap, lowerOf, lowestBelow, sumBelow}
 
 -- ---- the lower of two
 pub first-none : (a b : ℕ) → a ≡ 0 → b ≡ lowerOf a b
@@ -42,6 +42,6 @@ module _ (f : ℕ → ℕ) where
   unfolding lowestBelow
   lowest-more i a r b e g h = h ∙ (λ j. lowerOf (e j) (g j)) ∙ ap (λ (n : ℕ). lowestBelow n f) (sym (add-one i))
 
-  pub sum-more : (i a r b : ℕ) → a ≡ min (sumBelow i f) 8193 → r ≡ f i → b ≡ min (a + r) 8193 → b ≡ min (sumBelow (i + 1) f) 8193
+  pub sum-more : (i a r b : ℕ) → a ≡ min (sumBelow i f) entryCap → r ≡ f i → b ≡ min (a + r) entryCap → b ≡ min (sumBelow (i + 1) f) entryCap
   unfolding sumBelow
-  sum-more i a r b e g h = let s : b ≡ min (sumBelow (suc i) f) 8193 = omega arith in s ∙ ap (λ (n : ℕ). min (sumBelow n f) 8193) (sym (add-one i))
+  sum-more i a r b e g h = let s : b ≡ min (sumBelow (suc i) f) entryCap = omega arith in s ∙ ap (λ (n : ℕ). min (sumBelow n f) entryCap) (sym (add-one i))

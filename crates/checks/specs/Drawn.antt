@@ -2,7 +2,7 @@
 -- is turned down"). The lowest number that applies is drawn. Definitions only.
 use mathlib.Core.Bool.{Bool, true}
 use mathlib.Core.List.{List}
-use Prim.Native.Nat.{ℕ, zero, suc, _+_}
+use Prim.Native.Nat.{ℕ, zero, suc, _+_, min}
 use lib.Dec.{ltb, leb}
 use lib.Ieee.{Float}
 use lib.ListN.{length}
@@ -104,6 +104,10 @@ recordWords table.InBetweens = inBetweenWords
 recordWords table.Skins = skinWords
 recordWords table.Skeletons = skeletonWords
 
+-- one above the limit of child entries, which tells that it is passed
+abbrev pub entryCap : ℕ
+entryCap = 8193
+
 -- the paper limits nodes and channels
 abbrev pub countWithin : Table → ℕ → Bool
 countWithin table.Nodes n = leb n nodeLimit
@@ -130,6 +134,10 @@ rootsNumber len roots = drawn (fitsIn roots 1 len) (leb (roots .count) rootLimit
 
 abbrev pub childCount : List ℕ → Part → ℕ → ℕ
 childCount words nodes i = nodeRow words nodes i .children .count
+
+-- the child entries of all nodes, an entry counted as often as it is listed, as far as one above the limit
+abbrev pub cappedEntries : List ℕ → Part → ℕ
+cappedEntries words nodes = min (sumBelow (nodes .count) (childCount words nodes)) entryCap
 
 unfoldable pub childrenNumber : List ℕ → Part → ℕ
 childrenNumber words nodes = drawn true (leb (sumBelow (nodes .count) (childCount words nodes)) childEntryLimit)

@@ -9,7 +9,7 @@ use tables::Header;
 ghost use mathlib.Core.Path.{_≡_};
 ghost use Prim.Native.Nat.{_+_, min};
 ghost use lib.ListN.{length};
-ghost use Rattle.checks.specs.Drawn.{recordWords, countWithin, tableNumber, wholeNumber, childrenNumber, rootsNumber, sumBelow, childCount, listedNumber, tablesNumber, sizesOf, sceneLent};
+ghost use Rattle.checks.specs.Drawn.{recordWords, countWithin, tableNumber, wholeNumber, childrenNumber, rootsNumber, listedNumber, tablesNumber, sceneLent, entryCap, cappedEntries};
 
 // The words of a record.
 fn record_words(k: Table) -> usize
@@ -64,20 +64,24 @@ fn whole_number(words: &[u32], floats: &[f32], s: Sizes, h: Header, k: Table) ->
     lower(number, rows_number(words, floats, s, t, k))
 }
 
+// One above the limit of child entries, which tells that it is passed.
+const ENTRY_CAP: usize = 8193;
+
+// A sum with a count more, as far as the cap.
 fn capped(sum: usize, count: usize) -> usize
-    ensures { λ r. ⌜ r ≡ min (sum + count) 8193 ⌝ }
+    ensures { λ r. ⌜ r ≡ min (sum + count) entryCap ⌝ }
 {
-    if sum < 8193 {
-        if count < 8193 - sum {
+    if sum < ENTRY_CAP {
+        if count < ENTRY_CAP - sum {
             return sum + count;
         }
     }
-    8193
+    ENTRY_CAP
 }
 
-// The child entries of all nodes, an entry counted as often as it is listed; 8193 where there are more.
+// The child entries of all nodes, an entry counted as often as it is listed, as far as one above their limit.
 pub fn child_entries(words: &[u32], nodes: Part) -> usize
-    ensures { λ r. ⌜ r ≡ min (sumBelow (nodes .count) (childCount (now (words .entry)) nodes)) 8193 ⌝ }
+    ensures { λ r. ⌜ r ≡ cappedEntries (now (words .entry)) nodes ⌝ }
 {
     let count = nodes.count;
     let mut sum: usize = 0;

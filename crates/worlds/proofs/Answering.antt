@@ -2,7 +2,7 @@
 use mathlib.Core.Path.{_≡_, refl, sym, ap, _∙_}
 use mathlib.Core.Bool.{Bool, true, false, _||_}
 use mathlib.Core.List.{List, [], _∷_}
-use Prim.Native.Nat.{ℕ, zero, suc, _+_, _≤_, min}
+use Prim.Native.Nat.{ℕ, _+_}
 use native.Mathlib.Omega.{arith}
 use lib.Dec.{ltb}
 use lib.ListN.{length}
@@ -13,7 +13,7 @@ use Rattle.model.specs.Refusals.{shortScratch, firstOf, lowest, Scratch, scratc
 use Rattle.model.proofs.Numbers.{lowest-some}
 use Rattle.tables.specs.Decoded.{Lent, sceneOf}
 use Rattle.tables.proofs.Decoding.{node-count}
-use Rattle.checks.specs.Drawn.{tablesNumber, sumBelow, childCount}
+use Rattle.checks.specs.Drawn.{tablesNumber, cappedEntries}
 use Rattle.checks.proofs.Clearing.{checked}
 use Rattle.worlds.specs.Rooms.{shortIn}
 
@@ -27,7 +27,7 @@ module _ (l : Lent) (room : Scratch) where
   short-is z =
       let k = checked l z in
       let g = l .header .graph in
-      let e : g .roots .count + min (sumBelow (g .nodes .count) (childCount (l .words) (g .nodes))) 8193 ≡ length (sceneOf l .roots) + childEntries (sceneOf l)
+      let e : g .roots .count + cappedEntries (l .words) (g .nodes) ≡ length (sceneOf l .roots) + childEntries (sceneOf l)
       = omega (arith, k .root-count, k .children, k .few-children) in
       let n = sym (node-count l) in
       (λ j. ltb (room .walkRoom) (e j) || ltb (room .poseSlots) (n j) || ltb (room .worldSlots) (n j))
@@ -35,6 +35,3 @@ module _ (l : Lent) (room : Scratch) where
   pub by-room : (b : Bool) → tablesNumber l ≡ 0 → shortIn (l .words) (l .header .graph) (room .walkRoom) (room .poseSlots) (room .worldSlots) ≡ b → pick b 6 0 ≡ placeNumber (tablesNumber l) (sceneOf l) room
   unfolding placeNumber firstOf
   by-room b z e = sym (λ j. lowest (z j) (pick ((sym (short-is z) ∙ e) j) 6 0))
-
-pub few-roots : (l : Lent) → tablesNumber l ≡ 0 → l .header .graph .roots .count ≤ 1024
-few-roots l z = let k = checked l z in omega (arith, k .root-count, k .few-roots)

@@ -1,21 +1,31 @@
 use tables::Graph;
 use tables::Header;
 ghost use mathlib.Core.Path.{_≡_};
-ghost use Prim.Native.Nat.{_≤_};
 ghost use Rattle.model.specs.Refusals.{placeNumber};
 ghost use Rattle.tables.specs.Decoded.{sceneOf};
 ghost use Rattle.checks.specs.Drawn.{sceneLent, tablesNumber};
-ghost use Rattle.worlds.specs.Rooms.{shortIn};
+ghost use Rattle.worlds.specs.Rooms.{walkIsShort, shortIn};
 
-// Whether the walk room or the slots are too few: a stage, for tables that draw no number.
+// Whether there is room for fewer entries than roots and children.
+fn walk_is_short(words: &[u32], graph: Graph, walk: usize) -> bool
+    ensures { λ r. ⌜ r ≡ walkIsShort (now (words .entry)) graph walk ⌝ }
+{
+    let roots = graph.roots.count;
+    if walk < roots {
+        return true;
+    }
+    if walk - roots < checks::child_entries(words, graph.nodes) {
+        return true;
+    }
+    false
+}
+
+// Whether the walk room or the slots are too few.
 pub fn is_short(words: &[u32], graph: Graph, walk: usize, poses: usize, worlds: usize) -> bool
-    requires { ⌜ graph .roots .count ≤ 1024 ⌝ }
     ensures { λ r. ⌜ r ≡ shortIn (now (words .entry)) graph walk poses worlds ⌝ }
 {
-    let nodes = graph.nodes;
-    let n = nodes.count;
-    let entries = graph.roots.count + checks::child_entries(words, nodes);
-    if walk < entries {
+    let n = graph.nodes.count;
+    if walk_is_short(words, graph, walk) {
         return true;
     }
     if poses < n {

@@ -3,7 +3,6 @@ use mathlib.Core.Path.{_≡_, refl, sym, _∙_}
 use mathlib.Core.Bool.{true, false}
 use borrow.Author.Needs.{needs}
 use Rattle.pose.proofs.CallLaws.{none-drawn}
-use Rattle.worlds.proofs.Answering.{few-roots}
 use Rattle.bake_stages.proofs.Drawing.{drawn-first, early-tests, early-short}
 use Rattle.bake_stages.proofs.numbers.early_number.Statement.{statement}
 use Rattle.bake_stages.proofs.numbers.early_number.Tie as tie
@@ -23,9 +22,6 @@ returns-3 c =
     early-tests _ _ _ false true _ (sym (c .before .before .before .before .before .tables-number .ensures) ∙ c .before .before .before .before .if1 .left)
     (sym (c .before .before .before .is-nan .ensures) ∙ c .before .before .if2 .left)
     (sym (c .before .keys-out-of-line .ensures _ _) ∙ c .if3 .taken) refl
-
-is-short-requires : tie.Need-is-short-requires
-is-short-requires c κs = few-roots _ (sym (c .before .before .before .before .before .tables-number .ensures) ∙ c .before .before .before .before .if1 .left)
 
 returns-4 : tie.Need-returns-4
 returns-4 c =
@@ -51,6 +47,6 @@ early-number-spec =
     returns-2
     keys-out-of-line-requires
     returns-3
-    is-short-requires
+    (λ c κs. search needs)
     returns-4
     returns-5)

@@ -5,13 +5,13 @@ use borrow.Author.Needs.{needs}
 use denote.Ref.{now}
 use native.Mathlib.Omega.{arith}
 use Rattle.checks.proofs.Lowest.{sum-more}
-use Rattle.checks.specs.Drawn.{sumBelow, childCount}
+use Rattle.checks.specs.Drawn.{entryCap, sumBelow, childCount}
 use Rattle.tables.specs.declared.NodeRow.{NodeRow}
 use Rattle.checks.proofs.numbers.child_entries.Statement.{statement}
 use Rattle.checks.proofs.numbers.child_entries.Tie as tie
 
 abbrev Inv-loop : tie.InvT-loop
-Inv-loop words nodes count sum₀ i₀ sum i = (count ≡ nodes .count) × (i ≤ count) × (sum ≡ min (sumBelow i (childCount words nodes)) 8193)
+Inv-loop words nodes count sum₀ i₀ sum i = (count ≡ nodes .count) × (i ≤ count) × (sum ≡ min (sumBelow i (childCount words nodes)) entryCap)
 
 abbrev μ-loop : tie.MeasureT-loop
 μ-loop words nodes count sum₀ i₀ sum i = count - i
@@ -32,7 +32,7 @@ returns c =
     let l = c .before .loop in
     let a = c .before .before .before .args in
     let e : l .i ≡ a .nodes .count = omega (arith, l .inv .0, l .inv .1, c .loop-test .left) in
-    l .inv .2 ∙ ap (λ (n : ℕ). min (sumBelow n (childCount (now (a .words)) (a .nodes))) 8193) e
+    l .inv .2 ∙ ap (λ (n : ℕ). min (sumBelow n (childCount (now (a .words)) (a .nodes))) entryCap) e
 
 pub child-entries-spec : {M : Type 1} → statement M
 child-entries-spec =
