@@ -7,6 +7,7 @@ use lib.Ieee.{Float, isNan}
 use lib.ListN.{length, drop, replicate}
 use denote.Ref.{now}
 use Rattle.borrowed.specs.Slices.{Words, Floats}
+use Rattle.model.specs.Limits.{channelLimit, nodeLimit}
 use Rattle.model.specs.Scene.{nodeCount}
 use Rattle.model.specs.Placing.{places, taken}
 use Rattle.model.specs.World.{posesOf, worlds}
@@ -82,8 +83,8 @@ pub record Ready (words : List ℕ) (floats : List Float) (h : Header) (time : F
   pub timed : isNan time ≡ false
   pub lines : AllInLine words floats (h .channels) (h .graph .nodes .count)
   pub poses : h .graph .nodes .count ≤ room (r .marks) (r .slots)
-  pub channels : h .channels .count ≤ 1024
-  pub nodes : h .graph .nodes .count ≤ 1024
+  pub channels : h .channels .count ≤ channelLimit
+  pub nodes : h .graph .nodes .count ≤ nodeLimit
   pub codes : h .graph .nodes .count ≤ length (r .places)
   pub walk : 2 * entriesOf (listingIn words (h .graph)) ≤ length (r .walk)
   pub worlds : h .graph .nodes .count * 16 ≤ length (r .worlds)

@@ -1,4 +1,11 @@
 use crate::palettes::can_have_palette;
+use refusals::KEYS_OUT_OF_LINE;
+use refusals::NO_PALETTE;
+use refusals::NO_SUCH_NODE;
+use refusals::NO_TIME;
+use refusals::SHORT_OUTPUT;
+use refusals::SHORT_SCRATCH;
+use refusals::UNPLACED_NODE;
 use tables::Header;
 ghost use mathlib.Core.Path.{_≡_};
 ghost use mathlib.Core.Bool.{_&&_};
@@ -30,13 +37,13 @@ fn early_number(
         return drawn;
     }
     if float::is_nan(time) {
-        return 3;
+        return NO_TIME;
     }
     if pose::keys_out_of_line(words, floats, h) {
-        return 5;
+        return KEYS_OUT_OF_LINE;
     }
     if worlds::is_short(words, h.graph, walk, poses, worlds) {
-        return 6;
+        return SHORT_SCRATCH;
     }
     0
 }
@@ -80,7 +87,7 @@ pub fn first_number(
     if skin::has_mesh(words, h, node) {
         return 0;
     }
-    7
+    NO_SUCH_NODE
 }
 
 // Whether a node of n has a world.
@@ -114,9 +121,9 @@ pub fn late_number(
             if fit {
                 return 0;
             }
-            return 10;
+            return SHORT_OUTPUT;
         }
-        return 9;
+        return NO_PALETTE;
     }
-    8
+    UNPLACED_NODE
 }

@@ -1,6 +1,7 @@
 use crate::palettes::put_out;
 use crate::weighing::weights_into;
 use bake_stages::wide;
+use refusals::WEIGHT_LIMIT;
 use tables::Header;
 use tables::MeshRow;
 ghost use mathlib.Core.Path.{_≡_};
@@ -39,7 +40,7 @@ pub fn deliver<'a>(
     requires { ⌜ Drawable (now words) (now floats) (h .meshes .primitives) (partOf (now words) h node) × AtMost (lengthsBelow (now words) (h .meshes .primitives) (partOf (now words) h node) (partOf (now words) h node .count)) (length (now positions)) (length (now normals)) (length (now tangents)) × SkeletonsWithin (now words) (h .skins .skeletons) ⌝ }
     ensures { λ _. ⌜ Delivers (sceneLent words floats «node_weights» «mesh_weights» h) node time marks places worlds positions normals tangents ⌝ }
 {
-    let mut blend = [0.0f32; 64];
+    let mut blend = [0.0f32; WEIGHT_LIMIT];
     let mesh = mesh_of(words, h, node);
     let n = weights_into(
         words,

@@ -1,6 +1,7 @@
 use animation::Part;
 use animation::SampledValue;
 use bake_stages::wide;
+use refusals::WEIGHT_LIMIT;
 use tables::Header;
 use tables::MeshRow;
 use tables::NodeRow;
@@ -18,7 +19,7 @@ fn posed_weights(
     channels: Part,
     k: usize,
     time: f32,
-    out: &mut [f32; 64],
+    out: &mut [f32; WEIGHT_LIMIT],
 ) -> usize
     ensures { λ r. ⌜ Weighed (now (floats .entry)) (channelRow (now (words .entry)) channels k) time (now (out .exit)) r ⌝ }
 {
@@ -37,7 +38,7 @@ fn unposed_weights<'a>(
     mesh_weights: &'a [f32],
     node: NodeRow,
     mesh: MeshRow,
-    out: &mut [f32; 64],
+    out: &mut [f32; WEIGHT_LIMIT],
 ) -> usize
     ensures { λ r. ⌜ Unposed (now («node_weights» .entry)) (now («mesh_weights» .entry)) node mesh (now (out .exit)) r ⌝ }
 {
@@ -70,7 +71,7 @@ pub(crate) fn weights_into<'a>(
     mesh: MeshRow,
     time: f32,
     marks: &[u32],
-    out: &mut [f32; 64],
+    out: &mut [f32; WEIGHT_LIMIT],
 ) -> usize
     ensures { λ r. ⌜ Blending (sceneLent words floats «node_weights» «mesh_weights» h) time (now (marks .entry)) node mesh (now (out .exit)) r ⌝ }
 {

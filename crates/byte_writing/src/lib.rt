@@ -1,7 +1,9 @@
 // How much of each local array of a bake is written back to bytes, and the writing.
 use bake::Answer;
+use refusals::NO_SUCH_NODE;
 ghost use mathlib.Core.Path.{_≡_};
 ghost use Prim.Native.Nat.{_≤_};
+ghost use Rattle.model.specs.Limits.{nodeLimit};
 ghost use Rattle.bake_stages.specs.Scratch.{scratchRoom};
 ghost use Rattle.bake.specs.Baked.{room};
 ghost use Rattle.byte_writing.specs.Bytes.{byteScratch, byteOutput, byteRoom};
@@ -26,7 +28,7 @@ fn when_left(number: u32, n: usize) -> usize
     if number == 0 {
         return n;
     }
-    if 7 < number {
+    if NO_SUCH_NODE < number {
         return n;
     }
     0
@@ -34,7 +36,7 @@ fn when_left(number: u32, n: usize) -> usize
 
 // How much a bake has changed of a scratch room for so many nodes and words of walk room, and how much it has put out.
 pub fn amounts_of(a: Answer, nodes: usize, steps: usize) -> Amounts
-    requires { ⌜ whenLeft (a .number) nodes ≤ 1024 ⌝ }
+    requires { ⌜ whenLeft (a .number) nodes ≤ nodeLimit ⌝ }
     ensures { λ r. ⌜ r ≡ amountsOf a nodes steps ⌝ }
 {
     let number = a.number;

@@ -4,6 +4,12 @@ use crate::records::lower;
 use crate::records::rows_number;
 use crate::records::table_of;
 use animation::Part;
+use refusals::CHANNEL_LIMIT;
+use refusals::CHILD_ENTRY_LIMIT;
+use refusals::NODE_LIMIT;
+use refusals::OUT_OF_TABLE;
+use refusals::OVER_LIMIT;
+use refusals::ROOT_LIMIT;
 use row_checks::Sizes;
 use tables::Header;
 ghost use mathlib.Core.Path.{_≡_};
@@ -31,8 +37,8 @@ fn count_within(k: Table, count: usize) -> bool
     ensures { λ r. ⌜ r ≡ countWithin k count ⌝ }
 {
     match k {
-        Table::Nodes => count <= 1024,
-        Table::Channels => count <= 1024,
+        Table::Nodes => count <= NODE_LIMIT,
+        Table::Channels => count <= CHANNEL_LIMIT,
         Table::Meshes => true,
         Table::Primitives => true,
         Table::Targets => true,
@@ -58,8 +64,8 @@ fn whole_number(words: &[u32], floats: &[f32], s: Sizes, h: Header, k: Table) ->
 {
     let t = table_of(h, k);
     let number = table_number(words.len(), t, k);
-    if number == 1 {
-        return 1;
+    if number == OUT_OF_TABLE {
+        return OUT_OF_TABLE;
     }
     lower(number, rows_number(words, floats, s, t, k))
 }
@@ -98,17 +104,17 @@ pub fn child_entries(words: &[u32], nodes: Part) -> usize
 fn children_number(words: &[u32], nodes: Part) -> u32
     ensures { λ r. ⌜ r ≡ childrenNumber (now (words .entry)) nodes ⌝ }
 {
-    if child_entries(words, nodes) <= 8192 {
+    if child_entries(words, nodes) <= CHILD_ENTRY_LIMIT {
         return 0;
     }
-    2
+    OVER_LIMIT
 }
 
 fn roots_number(len: usize, roots: Part) -> u32
     ensures { λ r. ⌜ r ≡ rootsNumber len roots ⌝ }
 {
     let count = roots.count;
-    drawn(animation::fits(roots, 1, len), count <= 1024)
+    drawn(animation::fits(roots, 1, len), count <= ROOT_LIMIT)
 }
 
 // What all tables but the nodes draw.
@@ -149,8 +155,8 @@ pub fn tables_number(
         in_betweens: meshes.in_betweens.count,
     };
     let nodes = whole_number(words, floats, s, h, Table::Nodes);
-    if nodes == 1 {
-        return 1;
+    if nodes == OUT_OF_TABLE {
+        return OUT_OF_TABLE;
     }
     let children = children_number(words, graph.nodes);
     let roots = roots_number(words.len(), graph.roots);

@@ -1,6 +1,8 @@
 // What a record draws, and what all records of a table draw.
 use crate::Table;
 use animation::Part;
+use refusals::OUT_OF_TABLE;
+use refusals::OVER_LIMIT;
 use row_checks::Sizes;
 use row_checks::in_between_fits;
 use row_checks::in_between_within;
@@ -27,9 +29,9 @@ pub(crate) fn drawn(fits: bool, within: bool) -> u32
         if within {
             return 0;
         }
-        return 2;
+        return OVER_LIMIT;
     }
-    1
+    OUT_OF_TABLE
 }
 
 // The lower of two numbers, 0 being none.

@@ -1,4 +1,6 @@
 // The parent of every node, by the rule of graph.rs (`parents`).
+use refusals::SHORT_OUTPUT;
+
 mod walk;
 
 use tables::Header;
@@ -24,7 +26,7 @@ pub fn parents(
     let graph = h.graph;
     let n = graph.nodes.count;
     if out.len() < n {
-        return 10;
+        return SHORT_OUTPUT;
     }
     walk::mark(words, graph, &mut out[..n]);
     0

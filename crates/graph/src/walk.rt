@@ -5,6 +5,7 @@ use tables::Graph;
 ghost use mathlib.Core.Path.{_≡_};
 ghost use Prim.Native.Nat.{_+_, _-_, _≤_, _<_};
 ghost use lib.ListN.{length, getD, replicate};
+ghost use Rattle.model.specs.Limits.{nodeLimit, rootLimit};
 ghost use Rattle.model.specs.Parents.{markOne, markAll, takeId};
 ghost use Rattle.tables.specs.Decoded.{spanIn, childrenIn};
 ghost use Rattle.graph.specs.Stack.{zeros, Turned, Rooted, Drained, Marked};
@@ -34,7 +35,7 @@ fn list_roots(roots: &[u32], ids: &mut [u32], marks: &mut [u32]) -> usize
 
 // Node p lists x. Returns how many wait.
 fn list_one(p: u32, x: u32, ids: &mut [u32], marks: &mut [u32], top: usize) -> usize
-    requires { ⌜ (p < 1024) × (top + zeros (now marks) ≤ length (now ids)) ⌝ }
+    requires { ⌜ (p < nodeLimit) × (top + zeros (now marks) ≤ length (now ids)) ⌝ }
     ensures { λ r. ⌜ Turned (markOne p x) (now (ids .entry)) top (now (marks .entry)) (now (ids .exit)) r (now (marks .exit)) ⌝ }
 {
     let k = x as usize;
@@ -50,7 +51,7 @@ fn list_one(p: u32, x: u32, ids: &mut [u32], marks: &mut [u32], top: usize) -> u
 
 // Node p lists all of `list`, the last first. Returns how many wait.
 fn list_all(p: u32, list: &[u32], ids: &mut [u32], marks: &mut [u32], top: usize) -> usize
-    requires { ⌜ (p < 1024) × (top + zeros (now marks) ≤ length (now ids)) ⌝ }
+    requires { ⌜ (p < nodeLimit) × (top + zeros (now marks) ≤ length (now ids)) ⌝ }
     ensures { λ r. ⌜ Turned (markAll p (now (list .entry))) (now (ids .entry)) top (now (marks .entry)) (now (ids .exit)) r (now (marks .exit)) ⌝ }
 {
     let mut at = top;
@@ -65,7 +66,7 @@ fn list_all(p: u32, list: &[u32], ids: &mut [u32], marks: &mut [u32], top: usize
 
 // Takes the id at the top. Returns how many wait.
 fn step(words: &[u32], nodes: Part, ids: &mut [u32], marks: &mut [u32], top: usize) -> usize
-    requires { ⌜ (0 < top) × (top + zeros (now marks) ≤ length (now ids)) × (length (now marks) ≤ 1024) ⌝ }
+    requires { ⌜ (0 < top) × (top + zeros (now marks) ≤ length (now ids)) × (length (now marks) ≤ nodeLimit) ⌝ }
     ensures { λ r. ⌜ Turned (takeId (childrenIn (now (words .entry)) nodes) (getD (now (ids .entry)) (top - 1) 0)) (now (ids .entry)) (top - 1) (now (marks .entry)) (now (ids .exit)) r (now (marks .exit)) ⌝ }
 {
     let t = top - 1;
@@ -81,7 +82,7 @@ fn step(words: &[u32], nodes: Part, ids: &mut [u32], marks: &mut [u32], top: usi
 
 // Takes all that waits.
 fn drain(words: &[u32], nodes: Part, ids: &mut [u32], marks: &mut [u32], top: usize)
-    requires { ⌜ (top + zeros (now marks) ≤ length (now ids)) × (length (now marks) ≤ 1024) ⌝ }
+    requires { ⌜ (top + zeros (now marks) ≤ length (now ids)) × (length (now marks) ≤ nodeLimit) ⌝ }
     ensures { λ _. ⌜ Drained (now (words .entry)) nodes (now (ids .entry)) top (now (marks .entry)) (now (marks .exit)) ⌝ }
 {
     let mut left = top;
@@ -101,7 +102,7 @@ fn start(roots: &[u32], ids: &mut [u32], marks: &mut [u32]) -> usize
 
 // Marks every node.
 pub(crate) fn mark(words: &[u32], graph: Graph, marks: &mut [u32])
-    requires { ⌜ (length (spanIn (now words) (graph .roots) 1) ≤ 1024) × (length (now marks) ≤ 1024) ⌝ }
+    requires { ⌜ (length (spanIn (now words) (graph .roots) 1) ≤ rootLimit) × (length (now marks) ≤ nodeLimit) ⌝ }
     ensures { λ _. ⌜ Marked (now (words .entry)) (graph .nodes) (spanIn (now (words .entry)) (graph .roots) 1) (length (now (marks .entry))) (now (marks .exit)) ⌝ }
 {
     let mut ids = [0u32; ROOM];

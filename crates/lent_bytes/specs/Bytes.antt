@@ -6,6 +6,7 @@ use lib.Dec.{ltb}
 use lib.ListN.{length, take}
 use denote.Ref.{now}
 use Rattle.borrowed.specs.Slices.{Words, Floats}
+use Rattle.model.specs.Limits.{nodeLimit}
 use Rattle.model.specs.Lists.{pick}
 use Rattle.model.specs.Refusals.{number, outOfTable, overLimit, lowest}
 use Rattle.wire.specs.Bytes.{wordsIn, floatsIn}
@@ -94,7 +95,7 @@ walkLimit = 18432
 
 -- a word and sixteen floats a world slot
 abbrev pub codeLimit : ℕ
-codeLimit = 1024
+codeLimit = nodeLimit
 
 abbrev pub worldLimit : ℕ
 worldLimit = 16384

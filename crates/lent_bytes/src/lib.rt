@@ -1,5 +1,8 @@
 // What the C functions on scenes in bytes share: how much of a scene is decoded, and how much of the lent room is used.
 use animation::fits;
+use refusals::NODE_LIMIT;
+use refusals::OUT_OF_TABLE;
+use refusals::OVER_LIMIT;
 use tables::Header;
 ghost use mathlib.Core.Path.{_≡_};
 ghost use Rattle.lent_bytes.specs.Bytes.{isOver, graphFits, meshesFit, skinsFit, overNumber};
@@ -15,7 +18,7 @@ pub const SLOTS: usize = 10240;
 // The most words of walk room, two an entry: as many as the limits of roots and child entries let a walk need.
 pub const WALK: usize = 18432;
 // The most nodes, and the floats of their worlds.
-pub const NODES: usize = 1024;
+pub const NODES: usize = NODE_LIMIT;
 
 pub const WORLDS: usize = 16384;
 
@@ -71,9 +74,9 @@ pub fn over_number(
 {
     if is_over(words, floats, node_weights, mesh_weights) {
         if graph_fits(words, h) & meshes_fit(words, h) & skins_fit(words, h) {
-            return 2;
+            return OVER_LIMIT;
         }
-        return 1;
+        return OUT_OF_TABLE;
     }
     0
 }

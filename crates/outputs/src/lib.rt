@@ -1,4 +1,5 @@
 // Results that are copied into an output.
+use refusals::SHORT_OUTPUT;
 ghost use Rattle.outputs.specs.Output.{CopiedOut};
 
 // A refusal number, or 0, and how many floats were copied.
@@ -18,7 +19,7 @@ pub fn copy_out(number: u32, result: &[f32], out: &mut [f32]) -> Copied
     }
     if out.len() < result.len() {
         return Copied {
-            number: 10,
+            number: SHORT_OUTPUT,
             count: 0,
         };
     }

@@ -5,6 +5,7 @@ use Prim.Native.Nat.{ℕ, zero, suc, _+_, _-_, _*_, _≤_, _<_}
 use lib.Dec.{eqb}
 use lib.ListN.{length, getD, set, replicate}
 use lib.Seq.{paste}
+use Rattle.model.specs.Limits.{nodeLimit}
 use Rattle.model.specs.Lists.{pick}
 use Rattle.model.specs.Scene.{Scene, Node, nodeCount, childrenAt}
 use Rattle.placing.specs.Walk.{Change, Wiped}
@@ -85,7 +86,7 @@ Named (e ∷ s) = (0 < e .code) × Named s
 -- there is room for what is to come: the places are those of the nodes, at most 1,024, and no node is placed twice
 pub record Ready (s : Scene) (walk places order : List ℕ) (top placed : ℕ) : Type 0 where
   pub nodes : nodeCount s ≡ length places
-  pub few : length places ≤ 1024
+  pub few : length places ≤ nodeLimit
   pub room : 2 * pending s top places ≤ length walk
   pub left : placed + waiting (replicate (length places) 1) places ≤ length order
 

@@ -1,9 +1,11 @@
 // The placing of the nodes without their matrices: which node is placed under which, in what order, and how many entries
 // are taken. The room `walk` holds a stack of entries, two words each: an id, and the code of the place it is listed for.
+use refusals::NODE_LIMIT;
 use tables::Graph;
 ghost use mathlib.Core.Path.{_≡_};
 ghost use Prim.Native.Nat.{_+_, _*_, _≤_, _<_};
 ghost use lib.ListN.{length};
+ghost use Rattle.model.specs.Limits.{nodeLimit};
 ghost use Rattle.tables.specs.Decoded.{childrenIn};
 ghost use Rattle.placing.specs.Walk.{rootsIn, listingIn, entriesOf, change, Wiped, Walked};
 ghost use Rattle.placing.specs.Bench.{Named, stackOf, Ready, Pushed, Started, Stepped, Drained};
@@ -132,7 +134,7 @@ fn start(words: &[u32], graph: Graph, walk: &mut [u32], places: &mut [u32]) -> u
 // Places the nodes, where there are as many places as nodes.
 fn fill(words: &[u32], graph: Graph, walk: &mut [u32], places: &mut [u32], order: &mut [u32]) -> Run
     requires { ⌜ graph .nodes .count ≡ length (now places) ⌝ }
-    requires { ⌜ (graph .nodes .count ≤ 1024) × (graph .nodes .count ≤ length (now order)) ⌝ }
+    requires { ⌜ (graph .nodes .count ≤ nodeLimit) × (graph .nodes .count ≤ length (now order)) ⌝ }
     requires { ⌜ 2 * entriesOf (listingIn (now words) graph) ≤ length (now walk) ⌝ }
     ensures { λ r. ⌜ Walked (listingIn (now (words .entry)) graph) (change walk) (change places) (change order)
         (r .taken) (r .placed) ⌝ }
@@ -157,9 +159,9 @@ pub fn place(
     graph: Graph,
     walk: &mut [u32],
     places: &mut [u32],
-    order: &mut [u32; 1024],
+    order: &mut [u32; NODE_LIMIT],
 ) -> Run
-    requires { ⌜ graph .nodes .count ≤ 1024 ⌝ }
+    requires { ⌜ graph .nodes .count ≤ nodeLimit ⌝ }
     requires { ⌜ graph .nodes .count ≤ length (now places) ⌝ }
     requires { ⌜ 2 * entriesOf (listingIn (now words) graph) ≤ length (now walk) ⌝ }
     ensures { λ r. ⌜ Walked (listingIn (now (words .entry)) graph) (change walk) (change places) (change order)

@@ -2,11 +2,15 @@ use crate::lines::keys_out_of_line;
 use crate::sampler::clear;
 use crate::sampler::drive_all;
 use animation::Part;
+use refusals::KEYS_OUT_OF_LINE;
+use refusals::NO_TIME;
+use refusals::SHORT_SCRATCH;
 use tables::Header;
 ghost use mathlib.Core.Path.{_≡_};
 ghost use mathlib.Core.Bool.{false};
 ghost use Prim.Native.Nat.{_/_, _≤_, min};
 ghost use lib.Ieee.{isNan};
+ghost use Rattle.model.specs.Limits.{channelLimit};
 ghost use Rattle.checks.specs.Drawn.{sceneLent};
 ghost use Rattle.pose_slots.specs.Slots.{room};
 ghost use Rattle.pose_slots.specs.Channels.{channelsIn};
@@ -39,14 +43,14 @@ pub fn pose_number(
         return drawn;
     }
     if float::is_nan(time) {
-        return 3;
+        return NO_TIME;
     }
     if keys_out_of_line(words, floats, h) {
-        return 5;
+        return KEYS_OUT_OF_LINE;
     }
     let graph = h.graph;
     if slots < graph.nodes.count {
-        return 6;
+        return SHORT_SCRATCH;
     }
     0
 }
@@ -61,7 +65,7 @@ pub fn pose_all(
     marks: &mut [u32],
     slots: &mut [f32],
 )
-    requires { ⌜ NoneDrawn (now words) (now floats) channels × (isNan time ≡ false) × AllInLine (now words) (now floats) channels n × (n ≤ room (now marks) (now slots)) × (channels .count ≤ 1024) ⌝ }
+    requires { ⌜ NoneDrawn (now words) (now floats) channels × (isNan time ≡ false) × AllInLine (now words) (now floats) channels n × (n ≤ room (now marks) (now slots)) × (channels .count ≤ channelLimit) ⌝ }
     ensures { λ _. ⌜ Encoded (channelsIn (now (words .entry)) (now (floats .entry)) channels) time n marks slots ⌝ }
 {
     clear(marks, slots, n);

@@ -1,4 +1,6 @@
 use animation::Part;
+use refusals::KEYS_OUT_OF_LINE;
+use refusals::WEIGHT_LIMIT;
 use tables::ChannelRow;
 use tables::Header;
 ghost use mathlib.Core.Path.{_≡_};
@@ -19,7 +21,8 @@ fn is_out_of_line(floats: &[f32], row: ChannelRow, n: usize) -> bool
     ensures { λ r. ⌜ r ≡ outOfLine n (channelIn (now (floats .entry)) row) ⌝ }
 {
     if (row.target as usize) < n {
-        return animation::sample_number(floats, tables::track_of(row), 0.0, 64) == 5;
+        return animation::sample_number(floats, tables::track_of(row), 0.0, WEIGHT_LIMIT)
+            == KEYS_OUT_OF_LINE;
     }
     false
 }

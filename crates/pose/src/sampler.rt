@@ -11,6 +11,7 @@ ghost use mathlib.Core.Path.{_≡_};
 ghost use mathlib.Core.Bool.{false, not, _&&_};
 ghost use Prim.Native.Nat.{_+_, _≤_, _<_};
 ghost use lib.Ieee.{isNan};
+ghost use Rattle.model.specs.Limits.{channelLimit};
 ghost use Rattle.model.specs.Lists.{pick};
 ghost use Rattle.model.specs.Sampling.{even, inLine};
 ghost use Rattle.animation.specs.Tracks.{tableNumber};
@@ -29,7 +30,7 @@ struct Slot {
 
 // The word for the weights after channel k.
 fn word_after(g: Gift, k: usize, word: u32) -> u32
-    requires { ⌜ k < 1024 ⌝ }
+    requires { ⌜ k < channelLimit ⌝ }
     ensures { λ r. ⌜ r ≡ pick (bringsWeights g) (k + 1) word ⌝ }
 {
     match g {
@@ -50,7 +51,7 @@ fn slot_after(
     marks: &[u32],
     slots: &[f32],
 ) -> Slot
-    requires { ⌜ (tableNumber (now floats) (trackFor row) ≡ 0) × (isNan time ≡ false) × ((even (channelIn (now floats) row) && not (inLine (channelIn (now floats) row .keys))) ≡ false) × (row .target < room (now marks) (now slots)) × (k < 1024) ⌝ }
+    requires { ⌜ (tableNumber (now floats) (trackFor row) ≡ 0) × (isNan time ≡ false) × ((even (channelIn (now floats) row) && not (inLine (channelIn (now floats) row .keys))) ≡ false) × (row .target < room (now marks) (now slots)) × (k < channelLimit) ⌝ }
     ensures { λ r. ⌜ (poseOf (r .pose) ≡ bare (driven time (channelIn (now (floats .entry)) row) (now (marks .entry)) (now (slots .entry)))) × (r .word ≡ drivenWord time (channelIn (now (floats .entry)) row) k (now (marks .entry))) ⌝ }
 {
     let g = gift_at(floats, row, time);
@@ -72,7 +73,7 @@ fn drive(
     marks: &mut [u32],
     slots: &mut [f32],
 )
-    requires { ⌜ (tableNumber (now floats) (trackFor row) ≡ 0) × (isNan time ≡ false) × (outOfLine n (channelIn (now floats) row) ≡ false) × (n ≤ room (now marks) (now slots)) × (k < 1024) ⌝ }
+    requires { ⌜ (tableNumber (now floats) (trackFor row) ≡ 0) × (isNan time ≡ false) × (outOfLine n (channelIn (now floats) row) ≡ false) × (n ≤ room (now marks) (now slots)) × (k < channelLimit) ⌝ }
     ensures { λ _. ⌜ Driven time n k (channelIn (now (floats .entry)) row) (now (marks .entry)) (now (slots .entry)) (now (marks .exit)) (now (slots .exit)) ⌝ }
 {
     let i = row.target as usize;
@@ -92,7 +93,7 @@ pub(crate) fn drive_all(
     marks: &mut [u32],
     slots: &mut [f32],
 )
-    requires { ⌜ NoneDrawn (now words) (now floats) channels × (isNan time ≡ false) × AllInLine (now words) (now floats) channels n × (n ≤ room (now marks) (now slots)) × (channels .count ≤ 1024) × (now marks ≡ clearedWords n (now marks)) × (now slots ≡ clearedFloats n (now slots)) ⌝ }
+    requires { ⌜ NoneDrawn (now words) (now floats) channels × (isNan time ≡ false) × AllInLine (now words) (now floats) channels n × (n ≤ room (now marks) (now slots)) × (channels .count ≤ channelLimit) × (now marks ≡ clearedWords n (now marks)) × (now slots ≡ clearedFloats n (now slots)) ⌝ }
     ensures { λ _. ⌜ Encoded (channelsIn (now (words .entry)) (now (floats .entry)) channels) time n marks slots ⌝ }
 {
     let count = channels.count;

@@ -1,6 +1,7 @@
 use crate::Gift;
 use crate::NodePose;
 use animation::SampledValue;
+use refusals::WEIGHT_LIMIT;
 use scene::Quat;
 use scene::Vec3;
 use tables::ChannelRow;
@@ -80,7 +81,7 @@ pub fn gift_at(floats: &[f32], row: ChannelRow, time: f32) -> Gift
     requires { ⌜ (tableNumber (now floats) (trackFor row) ≡ 0) × (isNan time ≡ false) × ((even (channelIn (now floats) row) && not (inLine (channelIn (now floats) row .keys))) ≡ false) ⌝ }
     ensures { λ r. ⌜ Gives r (channelIn (now (floats .entry)) row .property) (channelIn (now (floats .entry)) row .kind) (sample (channelIn (now (floats .entry)) row) time) ⌝ }
 {
-    let mut weights = [0.0f32; 64];
+    let mut weights = [0.0f32; WEIGHT_LIMIT];
     match animation::sample(floats, tables::track_of(row), time, &mut weights) {
         SampledValue::Vec3(v) => of_vec3(tables::property_of(row), v),
         SampledValue::Quat(q) => of_quat(tables::property_of(row), q),

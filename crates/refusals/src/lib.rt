@@ -27,8 +27,11 @@ pub const NO_COMMON_ROOT: u32 = 11;
 pub const NO_SUCH_FRAME: u32 = 12;
 
 pub const NODE_LIMIT: usize = 1024;
+
 pub const ROOT_LIMIT: usize = 1024;
+
 pub const CHILD_ENTRY_LIMIT: usize = 8192;
+
 pub const CHANNEL_LIMIT: usize = 1024;
 // Of one track.
 pub const KEY_LIMIT: usize = 65535;

@@ -1,5 +1,10 @@
 // Whether the counts, tags and marks of a record are within their limits.
 use crate::places::both;
+use refusals::IN_BETWEEN_LIMIT;
+use refusals::JOINT_LIMIT;
+use refusals::PRIMITIVE_LIMIT;
+use refusals::TARGET_LIMIT;
+use refusals::VERTEX_LIMIT;
 use tables::ChannelRow;
 use tables::InBetweenRow;
 use tables::MeshRow;
@@ -34,7 +39,7 @@ fn slot_within(s: Slot) -> bool
     if mark == 0 {
         return true;
     }
-    both(is_known(mark, 1), at_most(part.count, 65535))
+    both(is_known(mark, 1), at_most(part.count, VERTEX_LIMIT))
 }
 
 pub fn node_within(r: NodeRow) -> bool
@@ -65,7 +70,7 @@ pub fn mesh_within(r: MeshRow) -> bool
     ensures { λ b. ⌜ b ≡ meshWithin r ⌝ }
 {
     let primitives = r.primitives;
-    at_most(primitives.count, 64)
+    at_most(primitives.count, PRIMITIVE_LIMIT)
 }
 
 pub fn primitive_within(r: PrimitiveRow) -> bool
@@ -78,11 +83,11 @@ pub fn primitive_within(r: PrimitiveRow) -> bool
     let weights = r.weights;
     let targets = r.targets;
     let shape = both(
-        at_most(positions.count, 65535),
+        at_most(positions.count, VERTEX_LIMIT),
         both(slot_within(normals), slot_within(tangents)),
     );
     let skin = both(slot_within(joints), slot_within(weights));
-    both(shape, both(skin, at_most(targets.count, 64)))
+    both(shape, both(skin, at_most(targets.count, TARGET_LIMIT)))
 }
 
 pub fn target_within(r: TargetRow) -> bool
@@ -96,7 +101,7 @@ pub fn target_within(r: TargetRow) -> bool
         slot_within(positions),
         both(slot_within(normals), slot_within(tangents)),
     );
-    both(shape, at_most(in_betweens.count, 16))
+    both(shape, at_most(in_betweens.count, IN_BETWEEN_LIMIT))
 }
 
 pub fn in_between_within(r: InBetweenRow) -> bool
@@ -118,5 +123,5 @@ pub fn skeleton_within(r: SkeletonRow) -> bool
     ensures { λ b. ⌜ b ≡ skeletonWithin r ⌝ }
 {
     let joints = r.joints;
-    at_most(joints.count, 256)
+    at_most(joints.count, JOINT_LIMIT)
 }

@@ -2,6 +2,10 @@ use crate::Answer;
 use crate::Joints;
 use crate::palette::palette_count;
 use crate::palette::write_palette;
+use refusals::NO_PALETTE;
+use refusals::NO_SUCH_NODE;
+use refusals::SHORT_OUTPUT;
+use refusals::SHORT_SCRATCH;
 use skin_roots::wide;
 use tables::Header;
 ghost use mathlib.Core.Path.{_≡_};
@@ -50,16 +54,16 @@ fn judge(
     }
     let n = h.graph.nodes.count;
     if slots < n {
-        return refusal(6);
+        return refusal(SHORT_SCRATCH);
     }
     if n <= wide(node) {
-        return refusal(7);
+        return refusal(NO_SUCH_NODE);
     }
     let Joints::Count(k) = node_count(words, floats, h, node, places) else {
-        return refusal(9);
+        return refusal(NO_PALETTE);
     };
     if room / 16 < k {
-        return refusal(10);
+        return refusal(SHORT_OUTPUT);
     }
     Answer {
         number: 0,

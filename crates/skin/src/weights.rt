@@ -1,3 +1,4 @@
+use refusals::NO_SUCH_NODE;
 use skin_roots::wide;
 use tables::Header;
 use tables::MeshRow;
@@ -61,7 +62,7 @@ pub fn weights_number(
     if has_mesh(words, h, node) {
         return 0;
     }
-    7
+    NO_SUCH_NODE
 }
 
 // The weights that a node's mesh is blended with, where they lie; the empty part where the call is refused.

@@ -5,6 +5,7 @@ ghost use mathlib.Core.Path.{_≡_};
 ghost use Prim.Native.Nat.{_+_, _≤_, _<_};
 ghost use lib.Dec.{eqb};
 ghost use lib.ListN.{length, getD};
+ghost use Rattle.model.specs.Limits.{nodeLimit};
 ghost use Rattle.model.specs.Lists.{foldl, firstThat};
 ghost use Rattle.tables.specs.Tags.{namedOf};
 ghost use Rattle.skin_roots.specs.Lines.{codeAbove, lineIn, countOne, Leading};
@@ -42,7 +43,7 @@ fn count_one(counts: &mut [usize], a: usize, t: usize)
 
 // Counts the nodes of the line of joint t.
 fn count_line(codes: &[u32], joint: u32, t: usize, counts: &mut [usize])
-    requires { ⌜ (length (now codes) ≤ 1024) × (joint < 1024) × (t < 18446744073709551615) ⌝ }
+    requires { ⌜ (length (now codes) ≤ nodeLimit) × (joint < nodeLimit) × (t < 18446744073709551615) ⌝ }
     ensures { λ _. ⌜ now (counts .exit) ≡ foldl (countOne t) (now (counts .entry)) (lineIn (now (codes .entry)) joint) ⌝ }
 {
     let mut left = codes.len() + 1;
@@ -58,7 +59,7 @@ fn count_line(codes: &[u32], joint: u32, t: usize, counts: &mut [usize])
 // Counts the lines of all joints, one after the other. Then a node is counted once for each joint just if it is on all
 // lines.
 pub(crate) fn count_lines(codes: &[u32], joints: &[u32], counts: &mut [usize])
-    requires { ⌜ (length (now codes) ≤ 1024) × Leading (now codes) (now joints) 0 (now counts) ⌝ }
+    requires { ⌜ (length (now codes) ≤ nodeLimit) × Leading (now codes) (now joints) 0 (now counts) ⌝ }
     ensures { λ _. ⌜ Leading (now (codes .entry)) (now (joints .entry)) (length (now (joints .entry))) (now (counts .exit)) ⌝ }
 {
     let mut t = 0;
@@ -80,7 +81,7 @@ fn stands_at(counts: &[usize], a: usize, m: usize) -> bool
 
 // The first node of a line that is counted m times.
 pub(crate) fn first_counted(codes: &[u32], joint: u32, counts: &[usize], m: usize) -> Named
-    requires { ⌜ (length (now codes) ≤ 1024) × (joint < 1024) ⌝ }
+    requires { ⌜ (length (now codes) ≤ nodeLimit) × (joint < nodeLimit) ⌝ }
     ensures { λ r. ⌜ namedOf r ≡ firstThat (λ a. eqb (getD (now (counts .entry)) a 0) m) (lineIn (now (codes .entry)) joint) ⌝ }
 {
     let mut left = codes.len() + 1;

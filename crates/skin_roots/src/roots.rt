@@ -2,6 +2,8 @@ use crate::Root;
 use crate::lines::count_lines;
 use crate::lines::first_counted;
 use crate::lines::wide;
+use refusals::NO_COMMON_ROOT;
+use refusals::NODE_LIMIT;
 use tables::Header;
 use tables::Named;
 ghost use mathlib.Core.Path.{_≡_};
@@ -9,6 +11,7 @@ ghost use mathlib.Core.Option.{none, some};
 ghost use Prim.Native.Nat.{_≤_};
 ghost use lib.Dec.{ltb};
 ghost use lib.ListN.{length};
+ghost use Rattle.model.specs.Limits.{nodeLimit};
 ghost use Rattle.model.specs.Lists.{pick, every};
 ghost use Rattle.tables.specs.Tags.{namedOf};
 ghost use Rattle.checks.specs.Drawn.{sceneLent};
@@ -31,7 +34,7 @@ fn all_nodes(joints: &[u32], n: usize) -> bool
 
 // The nearest node that is on the lines of all joints.
 fn common_root(codes: &[u32], joints: &[u32]) -> Named
-    requires { ⌜ (length (now codes) ≤ 1024) × Inside (now codes) ⌝ }
+    requires { ⌜ (length (now codes) ≤ nodeLimit) × Inside (now codes) ⌝ }
     ensures { λ r. ⌜ namedOf r ≡ commonIn (now (codes .entry)) (now (joints .entry)) ⌝ }
 {
     if joints.len() == 0 {
@@ -40,7 +43,7 @@ fn common_root(codes: &[u32], joints: &[u32]) -> Named
     if !all_nodes(joints, codes.len()) {
         return Named::Nothing;
     }
-    let mut counts = [0usize; 1024];
+    let mut counts = [0usize; NODE_LIMIT];
     count_lines(codes, &joints[1..], &mut counts);
     first_counted(codes, joints[0], &counts, joints.len() - 1)
 }
@@ -57,7 +60,7 @@ fn in_range(id: u32, n: usize) -> Named
 
 // The root of a skin, with the codes of all nodes' marks. A root that is named stands without a look at the joints.
 fn root_of(words: &[u32], h: Header, skin: u32, codes: &[u32]) -> Named
-    requires { ⌜ (length (now codes) ≤ 1024) × Inside (now codes) × (length (now codes) ≡ h .graph .nodes .count) ⌝ }
+    requires { ⌜ (length (now codes) ≤ nodeLimit) × Inside (now codes) × (length (now codes) ≡ h .graph .nodes .count) ⌝ }
     ensures { λ r. ⌜ Rooted (now (words .entry)) h skin (now (codes .entry)) r ⌝ }
 {
     let skins = h.skins;
@@ -88,7 +91,7 @@ pub fn skin_root(
 ) -> Root
     ensures { λ r. ⌜ RootAnswered (sceneLent words floats «node_weights» «mesh_weights» h) skin r ⌝ }
 {
-    let mut marks = [0u32; 1024];
+    let mut marks = [0u32; NODE_LIMIT];
     let number = graph::parents(words, floats, node_weights, mesh_weights, h, &mut marks);
     if number != 0 {
         return Root { number, node: 0 };
@@ -97,7 +100,7 @@ pub fn skin_root(
     match root_of(words, h, skin, &marks[..n]) {
         Named::Id(node) => Root { number: 0, node },
         Named::Nothing => Root {
-            number: 11,
+            number: NO_COMMON_ROOT,
             node: 0,
         },
     }

@@ -1,9 +1,11 @@
 // The world matrix of every placed node: `posed_node_transforms` of pose.rs, from a pose that is given in lent slots.
+use refusals::NODE_LIMIT;
 use tables::Graph;
 use tables::Header;
 ghost use mathlib.Core.Path.{_≡_};
 ghost use Prim.Native.Nat.{_+_, _*_, _≤_};
 ghost use lib.ListN.{length};
+ghost use Rattle.model.specs.Limits.{nodeLimit};
 ghost use Rattle.checks.specs.Drawn.{sceneLent};
 ghost use Rattle.placing.specs.Walk.{listingIn, entriesOf};
 ghost use Rattle.worlds.specs.Posed.{localIn};
@@ -33,12 +35,12 @@ pub fn place_all(
     places: &mut [u32],
     worlds: &mut [f32],
 ) -> usize
-    requires { ⌜ (graph .nodes .count ≤ 1024) × (graph .nodes .count ≤ length (now places)) ⌝ }
+    requires { ⌜ (graph .nodes .count ≤ nodeLimit) × (graph .nodes .count ≤ length (now places)) ⌝ }
     requires { ⌜ 2 * entriesOf (listingIn (now words) graph) ≤ length (now walk) ⌝ }
     requires { ⌜ graph .nodes .count * 16 ≤ length (now worlds) ⌝ }
     ensures { λ r. ⌜ Run (listingIn (now (words .entry)) graph) (localIn (now (words .entry)) (now (floats .entry)) (graph .nodes) (now (marks .entry)) (now (slots .entry))) (now (walk .entry)) (now (walk .exit)) (now (places .entry)) (now (places .exit)) (now (worlds .entry)) (now (worlds .exit)) r ⌝ }
 {
-    let mut order = [0u32; 1024];
+    let mut order = [0u32; NODE_LIMIT];
     let nodes = graph.nodes;
     let m = nodes.count * 16;
     let run = placing::place(words, graph, walk, places, &mut order);

@@ -1,3 +1,4 @@
+use refusals::SHORT_SCRATCH;
 use tables::Graph;
 use tables::Header;
 ghost use mathlib.Core.Path.{_≡_};
@@ -52,7 +53,7 @@ pub(crate) fn place_number(
         return drawn;
     }
     if is_short(words, h.graph, walk, poses, worlds) {
-        return 6;
+        return SHORT_SCRATCH;
     }
     0
 }

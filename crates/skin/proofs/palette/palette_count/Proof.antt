@@ -44,10 +44,10 @@ returns-2 c =
     let bs = c .before .before .floats-in in
     let w = c .before .is-whole in
     counted _ _ _ _ _ _ (
-      λ n m slots.
-          let p = palette-is (s .args .h .graph .nodes .count) (now (s .args .places)) slots _ _ (sym (w .ensures slots) ∙ c .if1 .taken) in
-          ap some (sym (palette-length _ _ slots))
-          ∙ sym (ap lengthOf (bound-to (lent s n m) (s .args .skin) (world s slots) (b .result) (b .ensures .skeleton _ n m) (r .0 .0) (r .1) _ (js .ensures) _ (bs .ensures) ∙ p))
+    λ n m slots.
+    let p = palette-is (s .args .h .graph .nodes .count) (now (s .args .places)) slots _ _ (sym (w .ensures slots) ∙ c .if1 .taken) in
+    ap some (sym (palette-length _ _ slots))
+    ∙ sym (ap lengthOf (bound-to (lent s n m) (s .args .skin) (world s slots) (b .result) (b .ensures .skeleton _ n m) (r .0 .0) (r .1) _ (js .ensures) _ (bs .ensures) ∙ p))
     )
 
 returns-3 : tie.Need-returns-3
@@ -60,9 +60,9 @@ returns-3 c =
     let bs = c .before .before .floats-in in
     let w = c .before .is-whole in
     counted _ _ _ _ _ _ (
-      λ n m slots.
-          sym (ap lengthOf (bound-to (lent s n m) (s .args .skin) (world s slots) (b .result) (b .ensures .skeleton _ n m) (r .0 .0) (r .1) _ (js .ensures) _ (bs .ensures)
-          ∙ no-palette _ (sym (w .ensures slots) ∙ c .if1 .left)))
+    λ n m slots.
+    sym (ap lengthOf (bound-to (lent s n m) (s .args .skin) (world s slots) (b .result) (b .ensures .skeleton _ n m) (r .0 .0) (r .1) _ (js .ensures) _ (bs .ensures)
+    ∙ no-palette _ (sym (w .ensures slots) ∙ c .if1 .left)))
     )
 
 pub palette-count-spec : {M : Type 1} → statement M
