@@ -17,7 +17,7 @@ use Rattle.model.specs.Vertices.{Shape}
 use Rattle.model.specs.Bake.{Output, bakedPrimitive, outputOf}
 use Rattle.model.proofs.Tests.{both}
 use Rattle.model.proofs.RowLaws.{flat}
-use Rattle.animation.specs.declared.Part.{Part}
+use Rattle.tracks.specs.declared.Part.{Part}
 use Rattle.tables.specs.declared.NodeRow.{NodeRow}
 use Rattle.tables.specs.declared.MeshRow.{MeshRow}
 use Rattle.tables.specs.Records.{nodeRow, meshRow, primitiveRow}

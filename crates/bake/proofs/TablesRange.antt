@@ -8,9 +8,9 @@ use lib.Ieee.{Float}
 use lib.ListN.{length}
 use Rattle.model.specs.Lists.{pick}
 use Rattle.model.specs.Refusals.{trackOverLimit}
-use Rattle.animation.specs.declared.Part.{Part}
-use Rattle.animation.specs.declared.Track.{Track}
-use Rattle.animation.specs.Tracks as tracks
+use Rattle.tracks.specs.declared.Part.{Part}
+use Rattle.tracks.specs.declared.Track.{Track}
+use Rattle.tracks.specs.Tracks as tracks
 use Rattle.tables.specs.Decoded.{Lent}
 use Rattle.checks.specs.declared.Table.{Table}
 use Rattle.checks.specs.declared.Table.the-variants as table

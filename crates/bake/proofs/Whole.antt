@@ -17,7 +17,7 @@ use Rattle.model.specs.Skin.{blendWeights}
 use Rattle.model.specs.Refusals.{lowest, earlyNumber}
 use Rattle.model.specs.Bake as model
 use Rattle.model.proofs.Tests.{both}
-use Rattle.animation.specs.declared.Part.{Part}
+use Rattle.tracks.specs.declared.Part.{Part}
 use Rattle.tables.specs.Records.{nodeRow, skeletonRow}
 use Rattle.tables.specs.Decoded.{Lent, meshOf, sceneOf}
 use Rattle.checks.specs.declared.Table.the-variants as table

@@ -32,9 +32,9 @@ use Rattle.model.proofs.Numbers.{sample-accepted}
 use Rattle.model.proofs.Sampled.{sample-at, value-width}
 use Rattle.animation.specs.declared.SampledValue.{SampledValue}
 use Rattle.animation.specs.declared.SampledValue.the-variants as value
-use Rattle.animation.specs.declared.Track as animation
+use Rattle.tracks.specs.declared.Track as animation
 use Rattle.animation.specs.Values.{answerOf}
-use Rattle.animation.specs.Tracks.{trackIn, tableNumber}
+use Rattle.tracks.specs.Tracks.{trackIn, tableNumber}
 use Rattle.tables.specs.declared.ChannelRow.{ChannelRow}
 use Rattle.tables.specs.declared.NodeRow.{NodeRow}
 use Rattle.tables.specs.declared.MeshRow.{MeshRow}

@@ -15,7 +15,7 @@ use Rattle.model.specs.World.{posesOf, poseAt, worlds, worldAt}
 use Rattle.model.specs.Skin.{blendWeights}
 use Rattle.model.specs.Refusals.{earlyNumber}
 use Rattle.model.specs.Bake.{bakedPrimitive, outputOf, paletteWith}
-use Rattle.animation.specs.declared.Part.{Part}
+use Rattle.tracks.specs.declared.Part.{Part}
 use Rattle.tables.specs.declared.Header.{Header}
 use Rattle.tables.specs.declared.MeshRow.{MeshRow}
 use Rattle.tables.specs.Records.{nodeRow, meshRow, skeletonRow}

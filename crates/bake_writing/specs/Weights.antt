@@ -12,7 +12,7 @@ use Rattle.model.specs.Sampling.{sample}
 use Rattle.model.specs.World.{posesOf, poseAt}
 use Rattle.model.specs.Skin.{effectiveWeights, blendWeights}
 use Rattle.model.specs.Refusals.{sampleNumber, someKeysOutOfLine}
-use Rattle.animation.specs.Tracks.{tableNumber}
+use Rattle.tracks.specs.Tracks.{tableNumber}
 use Rattle.tables.specs.declared.ChannelRow.{ChannelRow}
 use Rattle.tables.specs.declared.Header.{Header}
 use Rattle.tables.specs.declared.NodeRow.{NodeRow}

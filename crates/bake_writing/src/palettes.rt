@@ -1,8 +1,8 @@
-use animation::Part;
 use scene::Mat4;
 use skin::Joints;
 use tables::Header;
 use tables::Reference;
+use tracks::Part;
 ghost use mathlib.Core.Path.{_≡_};
 ghost use mathlib.Core.List.{List, []};
 ghost use mathlib.Core.Option.{Option, some};

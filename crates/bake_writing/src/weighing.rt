@@ -1,10 +1,10 @@
-use animation::Part;
 use animation::SampledValue;
 use bake_stages::wide;
 use refusals::WEIGHT_LIMIT;
 use tables::Header;
 use tables::MeshRow;
 use tables::NodeRow;
+use tracks::Part;
 ghost use mathlib.Core.Path.{_≡_};
 ghost use Prim.Native.Nat.{_+_, _*_};
 ghost use lib.ListN.{getD};

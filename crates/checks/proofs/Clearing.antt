@@ -12,7 +12,7 @@ use Rattle.model.specs.Scene.{Node, nodeCount}
 use Rattle.model.specs.Placing.{childEntries}
 use Rattle.model.proofs.ListLaws.{length-tabulate}
 use Rattle.model.proofs.Tests.{both}
-use Rattle.animation.specs.declared.Part.{Part}
+use Rattle.tracks.specs.declared.Part.{Part}
 use Rattle.tables.specs.declared.NodeRow.{NodeRow}
 use Rattle.tables.specs.Records.{nodeRow}
 use Rattle.tables.specs.Decoded.{Lent, spanIn, nodeOf, sceneOf}

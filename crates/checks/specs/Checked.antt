@@ -6,7 +6,7 @@ use lib.ListN.{length}
 use Rattle.model.specs.Scene.{nodeCount}
 use Rattle.model.specs.Placing.{childEntries}
 use Rattle.model.specs.Limits.{nodeLimit, rootLimit, channelLimit, childEntryLimit}
-use Rattle.animation.specs.Tracks as tracks
+use Rattle.tracks.specs.Tracks as tracks
 use Rattle.tables.specs.Records.{nodeRow, channelRow, meshRow, primitiveRow, targetRow, inBetweenRow, skinRow, skeletonRow}
 use Rattle.tables.specs.Tags.{trackFor}
 use Rattle.tables.specs.Decoded.{Lent, sceneOf}

@@ -11,8 +11,8 @@ use Rattle.borrowed.specs.Slices.{Words, Floats}
 use Rattle.model.specs.Lists.{pick}
 use Rattle.model.specs.Limits.{nodeLimit, rootLimit, channelLimit, childEntryLimit}
 use Rattle.model.specs.Refusals.{number, outOfTable, overLimit}
-use Rattle.animation.specs.declared.Part.{Part}
-use Rattle.animation.specs.Tracks as tracks
+use Rattle.tracks.specs.declared.Part.{Part}
+use Rattle.tracks.specs.Tracks as tracks
 use Rattle.tables.specs.declared.Header.{Header}
 use Rattle.tables.specs.Records.{nodeWords, channelWords, meshWords, primitiveWords, targetWords, inBetweenWords, skinWords, skeletonWords, nodeRow, channelRow, meshRow, primitiveRow, targetRow, inBetweenRow, skinRow, skeletonRow}
 use Rattle.tables.specs.Tags.{trackFor}

@@ -3,7 +3,6 @@ use crate::records::drawn;
 use crate::records::lower;
 use crate::records::rows_number;
 use crate::records::table_of;
-use animation::Part;
 use refusals::CHANNEL_LIMIT;
 use refusals::CHILD_ENTRY_LIMIT;
 use refusals::NODE_LIMIT;
@@ -12,6 +11,7 @@ use refusals::OVER_LIMIT;
 use refusals::ROOT_LIMIT;
 use row_checks::Sizes;
 use tables::Header;
+use tracks::Part;
 ghost use mathlib.Core.Path.{_≡_};
 ghost use Prim.Native.Nat.{_+_, min};
 ghost use lib.ListN.{length};
@@ -53,7 +53,7 @@ fn table_number(len: usize, t: Part, k: Table) -> u32
     ensures { λ r. ⌜ r ≡ tableNumber len t k ⌝ }
 {
     drawn(
-        animation::fits(t, record_words(k), len),
+        tracks::fits(t, record_words(k), len),
         count_within(k, t.count),
     )
 }
@@ -114,7 +114,7 @@ fn roots_number(len: usize, roots: Part) -> u32
     ensures { λ r. ⌜ r ≡ rootsNumber len roots ⌝ }
 {
     let count = roots.count;
-    drawn(animation::fits(roots, 1, len), count <= ROOT_LIMIT)
+    drawn(tracks::fits(roots, 1, len), count <= ROOT_LIMIT)
 }
 
 // What all tables but the nodes draw.

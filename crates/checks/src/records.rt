@@ -1,6 +1,5 @@
 // What a record draws, and what all records of a table draw.
 use crate::Table;
-use animation::Part;
 use refusals::OUT_OF_TABLE;
 use refusals::OVER_LIMIT;
 use row_checks::Sizes;
@@ -19,6 +18,7 @@ use row_checks::tags_known;
 use row_checks::target_fits;
 use row_checks::target_within;
 use tables::Header;
+use tracks::Part;
 ghost use mathlib.Core.Path.{_≡_};
 ghost use Rattle.checks.specs.Drawn.{drawn, lowerOf, lowestBelow, tableOf, nodeNumber, channelNumber, meshNumber, primitiveNumber, targetNumber, inBetweenNumber, skinNumber, skeletonNumber, rowNumber};
 
@@ -77,7 +77,7 @@ fn channel_number(words: &[u32], floats: &[f32], t: Part, i: usize) -> u32
 {
     let row = tables::channel_row(words, t, i);
     lower(
-        animation::table_number(floats, tables::track_of(row)),
+        tracks::table_number(floats, tables::track_of(row)),
         drawn(true, tags_known(row)),
     )
 }

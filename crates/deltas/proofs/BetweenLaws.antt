@@ -11,7 +11,7 @@ use lib.Ieee.{Float}
 use lib.ListN.{length, getD, take, length-append, List·getD-eq-default}
 use lib.Seq.{take-suc}
 use Rattle.model.specs.Lists.{pick, keep, anyOf}
-use Rattle.animation.specs.declared.Part.{Part}
+use Rattle.tracks.specs.declared.Part.{Part}
 use Rattle.float.specs.F32.{zero32}
 use Rattle.model.specs.Scene.{InBetween}
 use Rattle.model.proofs.ListLaws.{length-tabulate, getD-tabulate}

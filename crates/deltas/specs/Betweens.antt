@@ -9,7 +9,7 @@ use Rattle.float.specs.F32.{zero32}
 use Rattle.model.specs.Lists.{keep}
 use Rattle.model.specs.Scene.{InBetween}
 use Rattle.model.specs.Morph.{valid}
-use Rattle.animation.specs.declared.Part.{Part}
+use Rattle.tracks.specs.declared.Part.{Part}
 use Rattle.tables.specs.declared.Header.{Header}
 use Rattle.tables.specs.Records.{inBetweenRow}
 use Rattle.tables.specs.Decoded.{inBetweenOf, recordsIn}

@@ -1,7 +1,7 @@
 use crate::Station;
 use crate::records::between_at;
-use animation::Part;
 use tables::Header;
+use tracks::Part;
 ghost use mathlib.Core.Path.{_≡_};
 ghost use Rattle.model.specs.Lists.{anyOf};
 ghost use Rattle.model.specs.Scene.{InBetween};

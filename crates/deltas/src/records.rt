@@ -1,7 +1,7 @@
-use animation::Part;
 use tables::Header;
 use tables::InBetweenRow;
 use tables::TargetRow;
+use tracks::Part;
 ghost use mathlib.Core.Path.{_≡_};
 ghost use Prim.Native.Nat.{_+_, min};
 ghost use Rattle.tables.specs.Records.{inBetweenRow, targetRow};

@@ -12,7 +12,7 @@ use Rattle.model.specs.Lists.{pick}
 use Rattle.model.specs.Placing.{Place, unplaced, root, below}
 use Rattle.model.specs.Parents.{Marking, markRoots, markOne, markAll, takeId, explore}
 use Rattle.model.proofs.ListLaws.{same-entry}
-use Rattle.animation.specs.declared.Part.{Part}
+use Rattle.tracks.specs.declared.Part.{Part}
 use Rattle.tables.specs.Codes.{codeOf, codesOf}
 use Rattle.tables.specs.Decoded.{childrenIn}
 use Rattle.graph.specs.Stack.{topOf, Holds, Turned, Rooted, Drained, Marked}

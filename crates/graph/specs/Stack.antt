@@ -5,7 +5,7 @@ use Prim.Native.Nat.{ℕ, zero, suc, _+_, _≤_, _<_}
 use lib.ListN.{length, getD, replicate}
 use Rattle.model.specs.Placing.{Place, unplaced}
 use Rattle.model.specs.Parents.{Marking, markRoots, explore}
-use Rattle.animation.specs.declared.Part.{Part}
+use Rattle.tracks.specs.declared.Part.{Part}
 use Rattle.tables.specs.Decoded.{childrenIn}
 use Rattle.tables.specs.Codes.{codesOf}
 

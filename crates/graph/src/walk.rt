@@ -1,7 +1,7 @@
 // The walk over the listing. Ids wait in an array; one is pushed only as a root or when its node is marked, so as many wait
 // at most as there are roots and nodes.
-use animation::Part;
 use tables::Graph;
+use tracks::Part;
 ghost use mathlib.Core.Path.{_≡_};
 ghost use Prim.Native.Nat.{_+_, _-_, _≤_, _<_};
 ghost use lib.ListN.{length, getD, replicate};

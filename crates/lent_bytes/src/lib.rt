@@ -1,9 +1,9 @@
 // What the C functions on scenes in bytes share: how much of a scene is decoded, and how much of the lent room is used.
-use animation::fits;
 use refusals::NODE_LIMIT;
 use refusals::OUT_OF_TABLE;
 use refusals::OVER_LIMIT;
 use tables::Header;
+use tracks::fits;
 ghost use mathlib.Core.Path.{_≡_};
 ghost use Rattle.lent_bytes.specs.Bytes.{isOver, graphFits, meshesFit, skinsFit, overNumber};
 

@@ -16,7 +16,7 @@ use Rattle.model.specs.Morph.{Station, Segment, withDeltas, valid, inserted, st
 use Rattle.model.proofs.ListLaws.{length-zip}
 use Rattle.model.proofs.RowLaws.{Rows}
 use Rattle.model.proofs.Rowwise.{each-tabulated, rows-in}
-use Rattle.animation.specs.declared.Part.{Part}
+use Rattle.tracks.specs.declared.Part.{Part}
 use Rattle.tables.specs.declared.Slot.{Slot}
 use Rattle.tables.specs.declared.InBetweenRow.{InBetweenRow}
 use Rattle.tables.specs.declared.TargetRow.{TargetRow}

@@ -3,7 +3,7 @@ use mathlib.Core.List.{List}
 use Prim.Native.Nat.{ℕ}
 use lib.Ieee.{Float}
 use Rattle.model.specs.Scene as scene
-use Rattle.animation.specs.declared.Part.{Part}
+use Rattle.tracks.specs.declared.Part.{Part}
 use Rattle.tables.specs.declared.Header.{Header}
 use Rattle.tables.specs.Records.{targetRow}
 use Rattle.tables.specs.Decoded.{recordsIn, targetOf}

@@ -10,7 +10,7 @@ use Rattle.model.specs.Lists.{pick, tabulate, orElse}
 use Rattle.model.specs.Vector.{Vector}
 use Rattle.model.specs.Scene.{InBetween}
 use Rattle.model.specs.Morph as morph
-use Rattle.animation.specs.declared.Part.{Part}
+use Rattle.tracks.specs.declared.Part.{Part}
 use Rattle.tables.specs.declared.Header.{Header}
 use Rattle.tables.specs.Decoded.{slotIn}
 use Rattle.deltas.specs.declared.Station.{Station}

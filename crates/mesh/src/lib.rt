@@ -1,8 +1,8 @@
 // Morphed vertices, by the scope paper's rules: targets are added, one after the other, to positions, normals and tangents
 // that lie in lent flat slices.
-use animation::Part;
 use deltas::Station;
 use tables::Header;
+use tracks::Part;
 ghost use Rattle.borrowed.specs.InPlace.{InPlace};
 ghost use Rattle.model.specs.Morph.{withTargets};
 ghost use Rattle.model.specs.Attributes.{shapeOf};

@@ -1,5 +1,4 @@
 use crate::blending::add_stations;
-use animation::Part;
 use deltas::add_scaled;
 use deltas::add_tangents;
 use deltas::deltas_in;
@@ -7,6 +6,7 @@ use deltas::has_valid;
 use deltas::target_at;
 use tables::Header;
 use tables::TargetRow;
+use tracks::Part;
 ghost use Prim.Native.Nat.{_+_};
 ghost use Rattle.borrowed.specs.InPlace.{InPlace};
 ghost use Rattle.model.specs.Lists.{rowsIn};

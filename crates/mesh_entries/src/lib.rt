@@ -1,6 +1,6 @@
 // The C function of morphed vertices; include/mesh_entries.h declares it.
-use animation::Part;
 use tables::Header;
+use tracks::Part;
 ghost use Rattle.borrowed.specs.InPlace.{InPlace};
 ghost use Rattle.model.specs.Morph.{withTargets};
 ghost use Rattle.model.specs.Attributes.{shapeOf};

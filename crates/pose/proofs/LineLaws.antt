@@ -13,8 +13,8 @@ use Rattle.model.specs.Scene as scene
 use Rattle.model.specs.Sampling.{even, inLine}
 use Rattle.model.specs.Refusals.{sampleNumber, someKeysOutOfLine}
 use Rattle.model.proofs.Numbers.{shortFor, sample-tests}
-use Rattle.animation.specs.declared.Track.{Track}
-use Rattle.animation.specs.Tracks.{trackIn, tableNumber}
+use Rattle.tracks.specs.declared.Track.{Track}
+use Rattle.tracks.specs.Tracks.{trackIn, tableNumber}
 use Rattle.tables.specs.declared.ChannelRow.{ChannelRow}
 use Rattle.tables.specs.Records.{channelRow}
 use Rattle.tables.specs.Tags.{trackFor}

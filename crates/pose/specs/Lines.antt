@@ -7,8 +7,8 @@ use lib.Dec.{ltb}
 use lib.Ieee.{Float}
 use Rattle.model.specs.Scene.{Track}
 use Rattle.model.specs.Sampling.{even, inLine}
-use Rattle.animation.specs.declared.Part.{Part}
-use Rattle.animation.specs.Tracks.{tableNumber}
+use Rattle.tracks.specs.declared.Part.{Part}
+use Rattle.tracks.specs.Tracks.{tableNumber}
 use Rattle.tables.specs.Records.{channelRow}
 use Rattle.tables.specs.Tags.{trackFor}
 use Rattle.pose_slots.specs.Channels.{channelIn}

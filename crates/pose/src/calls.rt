@@ -1,11 +1,11 @@
 use crate::lines::keys_out_of_line;
 use crate::sampler::clear;
 use crate::sampler::drive_all;
-use animation::Part;
 use refusals::KEYS_OUT_OF_LINE;
 use refusals::NO_TIME;
 use refusals::SHORT_SCRATCH;
 use tables::Header;
+use tracks::Part;
 ghost use mathlib.Core.Path.{_≡_};
 ghost use mathlib.Core.Bool.{false};
 ghost use Prim.Native.Nat.{_/_, _≤_, min};

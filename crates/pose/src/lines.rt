@@ -1,14 +1,14 @@
-use animation::Part;
 use refusals::KEYS_OUT_OF_LINE;
 use refusals::WEIGHT_LIMIT;
 use tables::ChannelRow;
 use tables::Header;
+use tracks::Part;
 ghost use mathlib.Core.Path.{_≡_};
 ghost use mathlib.Core.List.{List};
 ghost use lib.Ieee.{Float};
 ghost use Rattle.model.specs.Lists.{anyOf};
 ghost use Rattle.model.specs.Refusals.{someKeysOutOfLine};
-ghost use Rattle.animation.specs.Tracks.{tableNumber};
+ghost use Rattle.tracks.specs.Tracks.{tableNumber};
 ghost use Rattle.tables.specs.Tags.{trackFor};
 ghost use Rattle.tables.specs.Decoded.{sceneOf};
 ghost use Rattle.checks.specs.Drawn.{lentAs};

@@ -22,9 +22,9 @@ use Rattle.model.proofs.Sampled.{stride-some, value-width}
 use Rattle.scene.specs.Values.{vec3, quat}
 use Rattle.animation.specs.declared.SampledValue.{SampledValue}
 use Rattle.animation.specs.declared.SampledValue.the-variants as value
-use Rattle.animation.specs.declared.Track as animation
+use Rattle.tracks.specs.declared.Track as animation
 use Rattle.animation.specs.Values.{answerOf}
-use Rattle.animation.specs.Tracks.{keysFit, valuesFit, trackIn, tableNumber}
+use Rattle.tracks.specs.Tracks.{keysFit, valuesFit, trackIn, tableNumber}
 use Rattle.tables.specs.declared.ChannelRow.{ChannelRow}
 use Rattle.tables.specs.Tags.{propertyFor, trackFor}
 use Rattle.tables.specs.Decoded.{driving}

@@ -4,8 +4,8 @@ use Prim.Native.Nat.{ℕ}
 use lib.Ieee.{Float}
 use Rattle.model.specs.Lists.{tabulate}
 use Rattle.model.specs.Scene.{Track}
-use Rattle.animation.specs.declared.Part.{Part}
-use Rattle.animation.specs.Tracks.{trackIn}
+use Rattle.tracks.specs.declared.Part.{Part}
+use Rattle.tracks.specs.Tracks.{trackIn}
 use Rattle.tables.specs.declared.ChannelRow.{ChannelRow}
 use Rattle.tables.specs.Records.{channelRow}
 use Rattle.tables.specs.Tags.{propertyFor, trackFor}

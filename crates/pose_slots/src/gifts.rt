@@ -14,7 +14,7 @@ ghost use Rattle.model.specs.Vector.{Vector, norm};
 ghost use Rattle.model.specs.Scene.{rotation, vec3s, quats, scalars};
 ghost use Rattle.model.specs.Sampling.{even, inLine, sample};
 ghost use Rattle.scene.specs.Values.{vec3, quat};
-ghost use Rattle.animation.specs.Tracks.{tableNumber};
+ghost use Rattle.tracks.specs.Tracks.{tableNumber};
 ghost use Rattle.tables.specs.Tags.{trackFor, propertyOf};
 ghost use Rattle.pose_slots.specs.Channels.{channelIn};
 ghost use Rattle.pose_slots.specs.Gifts.{withGift, Gives};

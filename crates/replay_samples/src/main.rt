@@ -2,16 +2,16 @@
 // is said in harness/compare/src/sampling/list.rs) through `animation::sample`, and counts the answers that differ: in a
 // bit or, of a Linear turn, by more than 2^-19. A line has 41 fields. The last line of the output is OK where the input is
 // whole, every kind of answer was seen and nothing differs, and FAILED otherwise.
-use animation::Interpolation;
-use animation::Kind;
-use animation::Part;
 use animation::SampledValue;
-use animation::Track;
 use lists::TURN_GAP;
 use lists::Tally;
 use lists::field;
 use lists::field_behind;
 use lists::is_near;
+use tracks::Interpolation;
+use tracks::Kind;
+use tracks::Part;
+use tracks::Track;
 
 fn float_behind(fields: &[u32], at: usize, k: usize) -> f32 {
     float::from_bits(field_behind(fields, at, k))

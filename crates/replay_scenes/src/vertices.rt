@@ -1,11 +1,11 @@
 // The calls on vertices in flat slices, of up to 64 floats each.
-use animation::Part;
 use lists::Checked;
 use lists::ahead;
 use lists::behind_list;
 use lists::field;
 use scene::Mat4;
 use tables::Header;
+use tracks::Part;
 
 fn check_outputs(
     fields: &[u32],

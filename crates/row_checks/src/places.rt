@@ -1,6 +1,5 @@
 // Whether the parts of a record lie in their tables.
 use crate::Sizes;
-use animation::Part;
 use tables::InBetweenRow;
 use tables::MeshRow;
 use tables::NodeRow;
@@ -8,6 +7,7 @@ use tables::PrimitiveRow;
 use tables::SkeletonRow;
 use tables::Slot;
 use tables::TargetRow;
+use tracks::Part;
 ghost use mathlib.Core.Path.{_≡_};
 ghost use mathlib.Core.Bool.{Bool, _&&_};
 ghost use Rattle.row_checks.specs.Places.{slotFits, baseFloats, nodeFits, meshFits, primitiveFits, targetFits, inBetweenFits, skeletonFits};
@@ -26,7 +26,7 @@ fn slot_fits(s: Slot, width: usize, len: usize) -> bool
     if mark == 0 {
         return true;
     }
-    animation::fits(part, width, len)
+    tracks::fits(part, width, len)
 }
 
 // Ten floats, or the sixteen of a matrix.
@@ -49,9 +49,9 @@ pub fn node_fits(s: Sizes, r: NodeRow) -> bool
         count: base_floats(r.form),
     };
     both(
-        animation::fits(base, 1, s.floats),
+        tracks::fits(base, 1, s.floats),
         both(
-            animation::fits(children, 1, s.words),
+            tracks::fits(children, 1, s.words),
             slot_fits(weights, 1, s.node_weights),
         ),
     )
@@ -63,8 +63,8 @@ pub fn mesh_fits(s: Sizes, r: MeshRow) -> bool
     let primitives = r.primitives;
     let weights = r.weights;
     both(
-        animation::fits(primitives, 1, s.primitives),
-        animation::fits(weights, 1, s.mesh_weights),
+        tracks::fits(primitives, 1, s.primitives),
+        tracks::fits(weights, 1, s.mesh_weights),
     )
 }
 
@@ -78,7 +78,7 @@ pub fn primitive_fits(s: Sizes, r: PrimitiveRow) -> bool
     let weights = r.weights;
     let targets = r.targets;
     let shape = both(
-        animation::fits(positions, 3, s.floats),
+        tracks::fits(positions, 3, s.floats),
         both(
             slot_fits(normals, 3, s.floats),
             slot_fits(tangents, 4, s.floats),
@@ -88,7 +88,7 @@ pub fn primitive_fits(s: Sizes, r: PrimitiveRow) -> bool
         slot_fits(joints, 4, s.words),
         slot_fits(weights, 4, s.floats),
     );
-    both(shape, both(skin, animation::fits(targets, 1, s.targets)))
+    both(shape, both(skin, tracks::fits(targets, 1, s.targets)))
 }
 
 pub fn target_fits(s: Sizes, r: TargetRow) -> bool
@@ -105,7 +105,7 @@ pub fn target_fits(s: Sizes, r: TargetRow) -> bool
             slot_fits(tangents, 3, s.floats),
         ),
     );
-    both(shape, animation::fits(in_betweens, 1, s.in_betweens))
+    both(shape, tracks::fits(in_betweens, 1, s.in_betweens))
 }
 
 pub fn in_between_fits(s: Sizes, r: InBetweenRow) -> bool
@@ -118,7 +118,7 @@ pub fn in_between_fits(s: Sizes, r: InBetweenRow) -> bool
         count: 1,
     };
     both(
-        animation::fits(weight, 1, s.floats),
+        tracks::fits(weight, 1, s.floats),
         both(
             slot_fits(positions, 3, s.floats),
             slot_fits(normals, 3, s.floats),
@@ -132,7 +132,7 @@ pub fn skeleton_fits(s: Sizes, r: SkeletonRow) -> bool
     let joints = r.joints;
     let binds = r.inverse_binds;
     both(
-        animation::fits(joints, 1, s.words),
-        animation::fits(binds, 16, s.floats),
+        tracks::fits(joints, 1, s.words),
+        tracks::fits(binds, 16, s.floats),
     )
 }

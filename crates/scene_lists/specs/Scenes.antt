@@ -2,7 +2,7 @@
 use mathlib.Core.List.{List}
 use Prim.Native.Nat.{ℕ, _+_, _*_}
 use lib.ListN.{length, getD}
-use Rattle.animation.specs.declared.Part.{Part}
+use Rattle.tracks.specs.declared.Part.{Part}
 use Rattle.tables.specs.declared.Graph.{Graph}
 use Rattle.tables.specs.declared.Header.{Header}
 use Rattle.tables.specs.declared.Meshes.{Meshes}

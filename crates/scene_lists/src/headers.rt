@@ -1,10 +1,10 @@
 // The header of a scene as it is lent (docs/TABLES.md): at and count of nine tables, in its order.
-use animation::Part;
 use lists::field_behind;
 use tables::Graph;
 use tables::Header;
 use tables::Meshes;
 use tables::Skins;
+use tracks::Part;
 ghost use mathlib.Core.Path.{_≡_};
 ghost use Prim.Native.Nat.{_<_};
 ghost use Rattle.scene_lists.specs.Scenes.{partAt, graphAt, meshesAt, skinsAt, headerAt};

@@ -13,7 +13,7 @@ use Rattle.model.specs.Scene.{Primitive}
 use Rattle.model.specs.Vertices.{Shape}
 use Rattle.model.specs.Bake.{bakedPrimitive, outputOf, written}
 use Rattle.model.proofs.RowLaws.{flat}
-use Rattle.animation.specs.declared.Part.{Part}
+use Rattle.tracks.specs.declared.Part.{Part}
 use Rattle.tables.specs.declared.PrimitiveRow.{PrimitiveRow}
 use Rattle.tables.specs.Decoded.{Lent, primitiveOf}
 use Rattle.checks.specs.Drawn.{sumBelow}

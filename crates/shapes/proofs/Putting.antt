@@ -19,7 +19,7 @@ use Rattle.model.specs.Attributes.{overRows, Reshaped}
 use Rattle.model.specs.Bake.{bakedPrimitive, written}
 use Rattle.model.proofs.RowLaws.{Rows, flat, flat-length}
 use Rattle.model.proofs.Rowwise.{tabulate-more, map-tabulate}
-use Rattle.animation.specs.declared.Part.{Part}
+use Rattle.tracks.specs.declared.Part.{Part}
 use Rattle.tables.specs.declared.Slot.{Slot}
 use Rattle.tables.specs.declared.PrimitiveRow.{PrimitiveRow}
 use Rattle.tables.specs.Tags.{isMarked}

@@ -11,7 +11,7 @@ use lib.Dec.{leb}
 use Rattle.model.specs.Lists.{pick}
 use Rattle.model.specs.Limits.{vertexLimit, targetLimit}
 use Rattle.model.proofs.Tests.{both}
-use Rattle.animation.specs.declared.Part.{Part}
+use Rattle.tracks.specs.declared.Part.{Part}
 use Rattle.tables.specs.declared.Slot.{Slot}
 use Rattle.tables.specs.declared.PrimitiveRow.{PrimitiveRow}
 use Rattle.tables.specs.Tags.{isMarked}

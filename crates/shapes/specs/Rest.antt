@@ -15,7 +15,7 @@ use Rattle.model.specs.Scene as scene
 use Rattle.model.specs.Vertices.{Shape}
 use Rattle.model.specs.Attributes.{attributesIn, Reshaped}
 use Rattle.model.specs.Bake.{Output, written}
-use Rattle.animation.specs.declared.Part.{Part}
+use Rattle.tracks.specs.declared.Part.{Part}
 use Rattle.tables.specs.declared.Slot.{Slot}
 use Rattle.tables.specs.declared.PrimitiveRow.{PrimitiveRow}
 use Rattle.tables.specs.Records.{primitiveRow}

@@ -1,7 +1,7 @@
 use crate::Lengths;
-use animation::Part;
 use tables::PrimitiveRow;
 use tables::Slot;
+use tracks::Part;
 ghost use mathlib.Core.Path.{_≡_};
 ghost use mathlib.Core.Bool.{true};
 ghost use Prim.Native.Nat.{_+_, _≤_, _<_};

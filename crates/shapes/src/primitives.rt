@@ -1,8 +1,8 @@
 use crate::parts::copy_rest;
-use animation::Part;
 use scene::Mat4;
 use tables::Header;
 use tables::PrimitiveRow;
+use tracks::Part;
 ghost use mathlib.Core.Path.{_≡_};
 ghost use mathlib.Core.List.{List, []};
 ghost use Rattle.borrowed.specs.InPlace.{InPlace};

@@ -12,7 +12,7 @@ use lib.ListN.{length, take, drop, replicate, length-drop, drop-of-length-le}
 use lib.Seq.{take-all}
 use Rattle.float.specs.F32.{zero32}
 use Rattle.model.specs.Lists.{pick, part}
-use Rattle.animation.specs.declared.Part.{Part}
+use Rattle.tracks.specs.declared.Part.{Part}
 use Rattle.tables.specs.Decoded.{spanIn, tenIn}
 
 -- ---- how many entries there is room for

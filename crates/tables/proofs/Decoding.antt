@@ -7,7 +7,7 @@ use Rattle.model.specs.Scene as scene
 use Rattle.model.specs.Agree.{Agree}
 use Rattle.model.proofs.ListLaws.{length-tabulate, getD-tabulate, entry-there, entry-past}
 use Rattle.model.proofs.Alike.{agree-alike}
-use Rattle.animation.specs.declared.Part.{Part}
+use Rattle.tracks.specs.declared.Part.{Part}
 use Rattle.tables.specs.Records.{nodeRow, channelRow, meshRow, skinRow, skeletonRow}
 use Rattle.tables.specs.Decoded.{Lent, nodeOf, channelOf, meshOf, skinOf, skeletonOf, recordsIn, sceneOf}
 

@@ -8,8 +8,8 @@ use native.Mathlib.Omega.{arith}
 use lib.Dec.{eqb}
 use Rattle.model.specs.Lists.{pick}
 use Rattle.model.specs.Scene as scene
-use Rattle.animation.specs.declared.Interpolation.the-variants as interpolation
-use Rattle.animation.specs.declared.Kind.the-variants as kind
+use Rattle.tracks.specs.declared.Interpolation.the-variants as interpolation
+use Rattle.tracks.specs.declared.Kind.the-variants as kind
 use Rattle.tables.specs.Tags.{isMarked, kindFor, interpolationFor, propertyFor}
 
 pub marked : (n : ℕ) → not (eqb n 0) ≡ isMarked n

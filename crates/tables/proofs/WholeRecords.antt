@@ -5,7 +5,7 @@ use Prim.Native.Nat.{ℕ, _+_, _*_, _<_}
 use native.Mathlib.Omega.{arith}
 use lib.ListN.{length, getD, take, drop}
 use lib.Seq.{getD-take, getD-drop}
-use Rattle.animation.specs.declared.Part.{Part}
+use Rattle.tracks.specs.declared.Part.{Part}
 use Rattle.tables.specs.Records.{alone, wordOf, partOf, slotOf, referenceOf, nodeWords, channelWords, meshWords, primitiveWords, targetWords, inBetweenWords, skinWords, skeletonWords, nodeRow, channelRow, meshRow, primitiveRow, targetRow, inBetweenRow, skinRow, skeletonRow}
 
 module _ (words : List ℕ) (t : Part) (i : ℕ) (row : List ℕ) where

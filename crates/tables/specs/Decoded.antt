@@ -12,8 +12,8 @@ use Rattle.model.specs.Vector.{Vector}
 use Rattle.model.specs.Transform.{Trs, Transform, parts, matrix}
 use Rattle.model.specs.Scene as scene
 use Rattle.scene.specs.Slots.{matrixIn}
-use Rattle.animation.specs.declared.Part.{Part}
-use Rattle.animation.specs.Tracks.{trackIn}
+use Rattle.tracks.specs.declared.Part.{Part}
+use Rattle.tracks.specs.Tracks.{trackIn}
 use Rattle.tables.specs.declared.Header.{Header}
 use Rattle.tables.specs.declared.Slot.{Slot}
 use Rattle.tables.specs.declared.NodeRow.{NodeRow}

@@ -3,7 +3,7 @@
 use mathlib.Core.List.{List}
 use Prim.Native.Nat.{ℕ, _+_, _*_}
 use lib.ListN.{getD}
-use Rattle.animation.specs.declared.Part.{Part}
+use Rattle.tracks.specs.declared.Part.{Part}
 use Rattle.tables.specs.declared.Reference.{Reference}
 use Rattle.tables.specs.declared.Slot.{Slot}
 use Rattle.tables.specs.declared.NodeRow.{NodeRow}

@@ -5,11 +5,11 @@ use mathlib.Core.Option.{Option, none, some}
 use Prim.Native.Nat.{ℕ, zero, suc}
 use Rattle.model.specs.Lists.{pick}
 use Rattle.model.specs.Scene as scene
-use Rattle.animation.specs.declared.Interpolation.{Interpolation}
-use Rattle.animation.specs.declared.Interpolation.the-variants as interpolation
-use Rattle.animation.specs.declared.Kind.{Kind}
-use Rattle.animation.specs.declared.Kind.the-variants as kind
-use Rattle.animation.specs.declared.Track.{Track}
+use Rattle.tracks.specs.declared.Interpolation.{Interpolation}
+use Rattle.tracks.specs.declared.Interpolation.the-variants as interpolation
+use Rattle.tracks.specs.declared.Kind.{Kind}
+use Rattle.tracks.specs.declared.Kind.the-variants as kind
+use Rattle.tracks.specs.declared.Track.{Track}
 use Rattle.tables.specs.declared.Reference.{Reference}
 use Rattle.tables.specs.declared.ChannelRow.{ChannelRow}
 use Rattle.tables.specs.declared.Named.{Named}

@@ -1,6 +1,6 @@
 // A scene as it is lent: records of whole numbers in `words`, and floats in slices beside them. docs/TABLES.md has the
 // layout. What a record says is read here; whether all that is lent lies in its tables is asked by the crate `checks`.
-use animation::Part;
+use tracks::Part;
 
 mod parts;
 mod readers;

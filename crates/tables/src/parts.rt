@@ -1,4 +1,4 @@
-use animation::Part;
+use tracks::Part;
 ghost use mathlib.Core.Path.{_≡_};
 ghost use Prim.Native.Nat.{_*_, min};
 ghost use Rattle.tables.specs.Decoded.{spanIn};

@@ -8,7 +8,7 @@ use crate::SkeletonRow;
 use crate::SkinRow;
 use crate::Slot;
 use crate::TargetRow;
-use animation::Part;
+use tracks::Part;
 ghost use mathlib.Core.Path.{_≡_};
 ghost use Prim.Native.Nat.{_+_, _*_, _<_};
 ghost use lib.ListN.{length, take, drop};

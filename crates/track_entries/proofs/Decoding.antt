@@ -16,8 +16,8 @@ use Rattle.model.proofs.Numbers.{sample-drawn}
 use Rattle.wire.specs.Bytes.{floatsIn}
 use Rattle.wire.proofs.Reading.{count}
 use Rattle.animation.specs.Values.{answerOf}
-use Rattle.animation.specs.Tracks.{keysFit, valuesFit, trackIn, tableNumber}
-use Rattle.animation.specs.declared.Track.{Track}
+use Rattle.tracks.specs.Tracks.{keysFit, valuesFit, trackIn, tableNumber}
+use Rattle.tracks.specs.declared.Track.{Track}
 use Rattle.animation.specs.declared.SampledValue.the-variants as sampledValue
 use Rattle.track_entries.specs.Tracks.{sampledIn}
 use Rattle.track_entries.specs.Bytes.{decodedLimit, decodedNumber, sampledInBytes}

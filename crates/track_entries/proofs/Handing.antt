@@ -17,8 +17,8 @@ use Rattle.scene.specs.Values.{vec3, quat}
 use Rattle.scene.specs.declared.Vec3.{Vec3}
 use Rattle.scene.specs.declared.Quat.{Quat}
 use Rattle.animation.specs.Values.{answerOf}
-use Rattle.animation.specs.Tracks.{keysFit, valuesFit, trackIn, tableNumber}
-use Rattle.animation.specs.declared.Track.{Track}
+use Rattle.tracks.specs.Tracks.{keysFit, valuesFit, trackIn, tableNumber}
+use Rattle.tracks.specs.declared.Track.{Track}
 use Rattle.animation.specs.declared.SampledValue.{SampledValue}
 use Rattle.animation.specs.declared.SampledValue.the-variants as sampledValue
 use Rattle.tables.specs.declared.ChannelRow.{ChannelRow}

@@ -8,8 +8,8 @@ use lib.ListN.{length}
 use Rattle.model.specs.Lists.{pick}
 use Rattle.model.specs.Scene as scene
 use Rattle.model.specs.Refusals.{firstOf, lowest, trackOverLimit}
-use Rattle.animation.specs.Tracks.{keysFit, valuesFit, trackIn, tableNumber}
-use Rattle.animation.specs.declared.Track.{Track}
+use Rattle.tracks.specs.Tracks.{keysFit, valuesFit, trackIn, tableNumber}
+use Rattle.tracks.specs.declared.Track.{Track}
 use Rattle.tables.specs.declared.ChannelRow.{ChannelRow}
 use Rattle.tables.specs.Tags.{trackFor}
 use Rattle.row_checks.specs.Bounds.{tagsKnown}

@@ -10,8 +10,8 @@ use Rattle.model.specs.Lists.{pick}
 use Rattle.model.specs.Calls.{Sampled, sampled}
 use Rattle.model.specs.Refusals.{number, outOfTable, overLimit, trackOverLimit}
 use Rattle.wire.specs.Bytes.{floatsIn, bytesOf}
-use Rattle.animation.specs.declared.Track.{Track}
-use Rattle.animation.specs.Tracks.{keysFit, valuesFit, trackIn}
+use Rattle.tracks.specs.declared.Track.{Track}
+use Rattle.tracks.specs.Tracks.{keysFit, valuesFit, trackIn}
 use Rattle.tables.specs.declared.ChannelRow.{ChannelRow}
 use Rattle.tables.specs.Tags.{trackFor}
 use Rattle.track_entries.specs.declared.tracks.Told.{Told}

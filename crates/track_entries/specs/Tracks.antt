@@ -9,8 +9,8 @@ use lib.ListN.{length, drop}
 use Rattle.model.specs.Calls.{Sampled, sampled, frameOf, strideOf}
 use Rattle.model.specs.Refusals.{overLimit, firstOf, lowest, frameNumber}
 use Rattle.outputs.specs.Output.{CopiedOut}
-use Rattle.animation.specs.declared.Track.{Track}
-use Rattle.animation.specs.Tracks.{trackIn, tableNumber}
+use Rattle.tracks.specs.declared.Track.{Track}
+use Rattle.tracks.specs.Tracks.{trackIn, tableNumber}
 use Rattle.tables.specs.declared.ChannelRow.{ChannelRow}
 use Rattle.tables.specs.Tags.{trackFor}
 use Rattle.row_checks.specs.Bounds.{tagsKnown}

@@ -4,7 +4,7 @@ use crate::tracks::Told;
 use crate::tracks::is_unnamed;
 use crate::tracks::row_for;
 use animation::SampledValue;
-use animation::Track;
+use tracks::Track;
 ghost use mathlib.Core.Path.{_≡_};
 ghost use Prim.Native.Nat.{_/_, _*_, _≤_, min};
 ghost use lib.Ieee.{binary32, ofBits};
@@ -38,7 +38,7 @@ fn sample_in(table: &[u8], t: Track, time: f32, weights: &mut [f32]) -> SampledV
     if n <= DECODED {
         return sample_decoded(table, t, time, weights);
     }
-    if animation::lies_in(n, t) {
+    if tracks::lies_in(n, t) {
         return SampledValue::Refused(2);
     }
     SampledValue::Refused(1)

@@ -2,19 +2,19 @@
 // and 2 for scalar, the interpolation 0 for Step, 1 for Linear and 2 for CubicSpline; then where its keys start and
 // how many there are, and the same of its values, which are counted by the kind's entries. A kind or interpolation
 // that names nothing draws 2, or 1 where the track leaves the table; the values of such a kind are counted as weights.
-use animation::Part;
 use animation::SampledValue;
-use animation::Track;
 use scene::Quat;
 use scene::Vec3;
 use tables::ChannelRow;
+use tracks::Part;
+use tracks::Track;
 ghost use mathlib.Core.Path.{_≡_};
 ghost use mathlib.Core.Bool.{Bool, not, _&&_};
 ghost use mathlib.Core.List.{_++_};
 ghost use lib.ListN.{drop};
 ghost use Rattle.scene.specs.Values.{vec3, quat};
 ghost use Rattle.model.specs.Sampling.{inLine};
-ghost use Rattle.animation.specs.Tracks.{keysFit, valuesFit};
+ghost use Rattle.tracks.specs.Tracks.{keysFit, valuesFit};
 ghost use Rattle.animation.specs.Values.{answerOf};
 ghost use Rattle.tables.specs.Tags.{isMarked, trackFor};
 ghost use Rattle.row_checks.specs.Bounds.{tagsKnown};
@@ -55,7 +55,7 @@ pub(crate) fn is_unnamed(len: usize, row: ChannelRow) -> bool
     if row_checks::tags_known(row) {
         return false;
     }
-    animation::lies_in(len, tables::track_of(row))
+    tracks::lies_in(len, tables::track_of(row))
 }
 
 // The lent array with v at its start.
@@ -233,7 +233,7 @@ pub extern "C" fn stride_floats(
 pub extern "C" fn keys_in_line_floats(keys: &[f32]) -> u32
     ensures { λ r. ⌜ r ≡ markOf (inLine (now (keys .entry))) ⌝ }
 {
-    if animation::keys_in_line(keys) {
+    if tracks::keys_in_line(keys) {
         return 1;
     }
     0

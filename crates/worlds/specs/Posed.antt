@@ -5,7 +5,7 @@ use lib.Ieee.{Float}
 use Rattle.model.specs.Matrix.{Matrix}
 use Rattle.model.specs.Transform.{toMatrix}
 use Rattle.model.specs.Pose.{localTransform}
-use Rattle.animation.specs.declared.Part.{Part}
+use Rattle.tracks.specs.declared.Part.{Part}
 use Rattle.tables.specs.Records.{nodeRow}
 use Rattle.tables.specs.Decoded.{baseOf}
 use Rattle.pose_slots.specs.Slots.{poseIn}

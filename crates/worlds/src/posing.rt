@@ -1,7 +1,7 @@
 use crate::slots::place_one;
 use crate::slots::wide;
-use animation::Part;
 use scene::Mat4;
+use tracks::Part;
 ghost use mathlib.Core.Path.{_≡_};
 ghost use lib.ListN.{length, getD, replicate};
 ghost use Rattle.float.specs.F32.{zero32};

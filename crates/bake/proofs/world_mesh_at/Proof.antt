@@ -7,7 +7,7 @@ use lib.ListN.{length}
 use Rattle.model.specs.Lists.{pick, isSome}
 use Rattle.model.specs.Scene.{meshAt}
 use Rattle.model.specs.Refusals.{lowest, earlyNumber}
-use Rattle.animation.specs.declared.Part.{Part}
+use Rattle.tracks.specs.declared.Part.{Part}
 use Rattle.tables.specs.declared.MeshRow.{MeshRow}
 use Rattle.tables.specs.Decoded.{Lent, sceneOf}
 use Rattle.checks.specs.Drawn.{lentAs, tablesNumber}

@@ -8,10 +8,10 @@ use denote.Ref.{now}
 use lib.ListN.{length, drop, length-drop}
 use lib.Seq.{take-all}
 use Rattle.model.specs.Sampling.{factor}
-use Rattle.animation.specs.Values.{interpolationOf}
-use Rattle.animation.specs.Tracks.{trackIn}
-use Rattle.animation.proofs.Drawn.{Clear, clear, keys-length, values-length}
-use Rattle.animation.proofs.Layouts.{few-rows}
+use Rattle.tracks.specs.Values.{interpolationOf}
+use Rattle.tracks.specs.Tracks.{trackIn}
+use Rattle.tracks.proofs.Drawn.{Clear, clear, keys-length, values-length}
+use Rattle.tracks.proofs.Layouts.{few-rows}
 use Rattle.animation.proofs.reading.frames_from.Statement.{statement}
 use Rattle.animation.proofs.reading.frames_from.Tie as tie
 

@@ -4,7 +4,7 @@ use Prim.Native.Nat.{ℕ}
 use borrow.Author.Needs.{needs}
 use denote.Ref.{now}
 use lib.ListN.{length}
-use Rattle.animation.specs.declared.Part.{Part}
+use Rattle.tracks.specs.declared.Part.{Part}
 use Rattle.checks.proofs.Lowest.{one-first}
 use Rattle.checks.specs.Drawn.{lowerOf, lowestBelow, rowNumber, tableOf, tableNumber, wholeNumber}
 use Rattle.checks.proofs.numbers.whole_number.Statement.{statement}

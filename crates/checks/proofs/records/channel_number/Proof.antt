@@ -3,7 +3,7 @@ use mathlib.Core.Bool.{true}
 use mathlib.Core.Path.{_∙_, ap}
 use borrow.Author.Needs.{needs}
 use denote.Ref.{now}
-use Rattle.animation.specs.Tracks.{tableNumber}
+use Rattle.tracks.specs.Tracks.{tableNumber}
 use Rattle.row_checks.specs.Bounds.{tagsKnown}
 use Rattle.checks.specs.Drawn.{drawn, lowerOf, channelNumber}
 use Rattle.tables.specs.Tags.{trackFor}

@@ -8,7 +8,7 @@ use denote.Ref.{now}
 use lib.ListN.{length}
 use Rattle.model.specs.Lists.{tabulate}
 use Rattle.model.specs.Scene.{Track}
-use Rattle.animation.specs.Tracks.{tableNumber}
+use Rattle.tracks.specs.Tracks.{tableNumber}
 use Rattle.tables.specs.declared.ChannelRow.{ChannelRow}
 use Rattle.tables.specs.Records.{channelRow}
 use Rattle.tables.specs.Tags.{trackFor}

@@ -4,7 +4,7 @@ use mathlib.Core.Option.{none}
 use borrow.Author.Needs.{needs}
 use denote.Ref.{now}
 use Rattle.animation.specs.declared.SampledValue.{SampledValue}
-use Rattle.animation.specs.Tracks.{trackIn}
+use Rattle.tracks.specs.Tracks.{trackIn}
 use Rattle.tables.specs.Tags.{trackFor}
 use Rattle.pose_slots.proofs.GiftLaws.{no-gift}
 use Rattle.pose_slots.proofs.SampledGifts.{Told, answered, handed}

@@ -4,7 +4,7 @@ use Prim.Native.Nat.{ℕ}
 use borrow.Author.Needs.{needs}
 use Rattle.model.specs.Scene.{Track}
 use Rattle.model.specs.Calls.{sampled}
-use Rattle.animation.specs.Tracks.{tableNumber}
+use Rattle.tracks.specs.Tracks.{tableNumber}
 use Rattle.track_entries.proofs.Decoding.{refused-with}
 use Rattle.track_entries.proofs.Naming.{table-draws, by-name, without-name}
 use Rattle.track_entries.proofs.tracks.sample_row.Statement.{statement}

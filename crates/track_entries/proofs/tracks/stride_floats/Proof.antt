@@ -2,7 +2,7 @@
 use mathlib.Core.Path.{sym, _∙_}
 use borrow.Author.Needs.{needs}
 use Rattle.model.specs.Calls.{strideOf}
-use Rattle.animation.specs.Tracks.{tableNumber}
+use Rattle.tracks.specs.Tracks.{tableNumber}
 use Rattle.track_entries.proofs.Naming.{table-draws, by-name, without-name}
 use Rattle.track_entries.proofs.Handing.{no-stride}
 use Rattle.track_entries.proofs.tracks.stride_floats.Statement.{statement}

@@ -1,0 +1,3 @@
+pub mod Layouts
+pub mod Drawn
+pub mod Ascent
