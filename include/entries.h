@@ -116,9 +116,9 @@ typedef struct {
 } Answer;
 
 /* Where every node stands in a given pose: the code of its place in `places`, as for `parents`, and its world in `worlds`,
-   sixteen floats each. A pose slot is four words of `marks` and ten floats of `slots`, as for `sample_pose`; a mark above 1
-   means the same as 1. The walk room has two words an entry, and is zeros after. Answers 1, 2, 6 or 0; where it is not 0,
-   nothing is changed. */
+   sixteen floats each. A pose slot is four words of `marks` and ten floats of `slots`, as for `sample_pose`; a mark
+   above 1 means the same as 1. The walk room has two words an entry, and is zeros after. Answers 1, 2, 6 or 0; where it
+   is not 0, nothing is changed. */
 Answer place_floats(const uint32_t *words, size_t words_len, const float *floats, size_t floats_len,
                     const float *node_weights, size_t node_weights_len, const float *mesh_weights,
                     size_t mesh_weights_len, Header header, const uint32_t *marks, size_t marks_len, const float *slots,

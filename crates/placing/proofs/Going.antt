@@ -28,7 +28,8 @@ unfolding sumOf waiting
 all-to-come [] = refl
 all-to-come (n ∷ ns) = ap (λ (k : ℕ). length (n .children) + k) (all-to-come ns)
 
-module _ (s : Scene) (codes room : Change) (top : ℕ) (S : Started s codes room top) (nodes : nodeCount s ≡ length (codes .lent)) where
+module _ (s : Scene) (codes room : Change) (top : ℕ) (S : Started s codes room top)
+    (nodes : nodeCount s ≡ length (codes .lent)) where
   pub bound : entriesOf s ≡ pending s top (codes .left)
   bound =
       omega (
@@ -39,10 +40,12 @@ module _ (s : Scene) (codes room : Change) (top : ℕ) (S : Started s codes room
         ap (λ (k : ℕ). waiting (childCounts s) (replicate k 0)) nodes,
       )
 
-  pub roots-ready : (order : List ℕ) → length (codes .lent) ≤ 1024 → length (codes .lent) ≤ length order → 2 * entriesOf s ≤ length (room .left)
+  pub roots-ready : (order : List ℕ) → length (codes .lent) ≤ 1024 → length (codes .lent) ≤ length order
+      → 2 * entriesOf s ≤ length (room .left)
       → Ready s (room .left) (codes .left) order top 0 × Named (stackOf (room .left) top)
   roots-ready order few long room =
-      let same : length (codes .left) ≡ length (codes .lent) = ap length (S .places) ∙ length-replicate {A = ℕ} (length (codes .lent)) 0 in (
+      let same : length (codes .left) ≡ length (codes .lent) =
+      ap length (S .places) ∙ length-replicate {A = ℕ} (length (codes .lent)) 0 in (
         record {
           nodes = nodes ∙ sym same;
           few = omega arith;
@@ -111,7 +114,8 @@ module _ (s : Scene) (walk₀ : List ℕ) (top₀ : ℕ) (m₀ : Marks) (walk : 
 
 -- nothing is left to take
 pub at-last : (s : Scene) (walk₀ : List ℕ) (top₀ : ℕ) (m₀ : Marks) (walk : List ℕ) (top : ℕ) (m : Marks) (taken : ℕ) → Going s walk₀ top₀ m₀ walk top m taken → top ≡ 0
-    → drained (pending s top₀ (m₀ .places)) (childrenAt s) (stackOf walk₀ top₀) m₀ 0 ≡ record { marks = m; taken = taken }
+    → drained (pending s top₀ (m₀ .places)) (childrenAt s) (stackOf walk₀ top₀) m₀ 0
+    ≡ record { marks = m; taken = taken }
 unfolding stackOf
 at-last s walk₀ top₀ m₀ walk top m taken g z =
     sym (g .goes)

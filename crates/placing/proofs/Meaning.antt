@@ -155,9 +155,11 @@ module _ (s : Scene) (lent : List ℕ) (nodes : nodeCount s ≡ length lent) whe
       no-entry [] h = refl
       no-entry (x ∷ l) h = absurd (omega arith)
 
-  module _ (some : length lent ≡ 0 → ⊥) (cleared : List ℕ) (room : Change) (top : ℕ) (S : Started s (record { lent = lent; left = cleared }) room top)
-      (same : length (room .left) ≡ length (room .lent)) (o wiped leftPlaces leftOrder : List ℕ) (n c : ℕ) (long : length lent ≤ length o)
-      (D : Drained s (record { lent = room .left; left = wiped }) top (record { places = cleared; order = o; placed = 0 }) (record { marks = record { places = leftPlaces; order = leftOrder; placed = c }; taken = n })) where
+  module _ (some : length lent ≡ 0 → ⊥) (cleared : List ℕ) (room : Change) (top : ℕ)
+      (S : Started s (record { lent = lent; left = cleared }) room top) (same : length (room .left) ≡ length (room .lent))
+      (o wiped leftPlaces leftOrder : List ℕ) (n c : ℕ) (long : length lent ≤ length o)
+      (D : Drained s (record { lent = room .left; left = wiped }) top (record { places = cleared; order = o; placed = 0 })
+      (record { marks = record { places = leftPlaces; order = leftOrder; placed = c }; taken = n })) where
     tables : codesOf (start s) ≡ cleared
     tables = sym (codes-start (nodeCount s)) ∙ ap (λ (k : ℕ). replicate k 0) nodes ∙ sym (S .places)
 
@@ -171,7 +173,9 @@ module _ (s : Scene) (lent : List ℕ) (nodes : nodeCount s ≡ length lent) whe
         ∙ (λ j. drained (bound s _ room top S nodes j) (childrenAt s) (stack j) (record { places = tables j; order = o; placed = 0 }) 0)
         ∙ D .ended
 
-    pub walked : Walked s (record { lent = room .lent; left = wiped }) (record { lent = lent; left = leftPlaces }) (record { lent = o; left = leftOrder }) n c
+    pub walked :
+        Walked s (record { lent = room .lent; left = wiped }) (record { lent = lent; left = leftPlaces })
+        (record { lent = o; left = leftOrder }) n c
     unfolding order
     walked =
         let count : c ≡ length (order s) = omega (arith, ap (λ (x : Ended). x .marks .placed) ended) in
@@ -187,8 +191,9 @@ module _ (s : Scene) (lent : List ℕ) (nodes : nodeCount s ≡ length lent) whe
 
 -- ---- the first places of a longer slice
 
-pub of-part : (s : Scene) (lent : List ℕ) (n : ℕ) → nodeCount s ≡ n → n ≤ length lent → (left : List ℕ) (room ids : Change) (k c : ℕ)
-    → Walked s room (record { lent = take n lent; left = left }) ids k c → Walked s room (record { lent = lent; left = left ++ drop n lent }) ids k c
+pub of-part : (s : Scene) (lent : List ℕ) (n : ℕ) → nodeCount s ≡ n → n ≤ length lent
+    → (left : List ℕ) (room ids : Change) (k c : ℕ) → Walked s room (record { lent = take n lent; left = left }) ids k c
+    → Walked s room (record { lent = lent; left = left ++ drop n lent }) ids k c
 of-part s lent n e h left room ids k c w = record {
   walk = w .walk;
   places = (λ j. (w .places ∙ (λ i. codesOf (places s) ++ none-past (take n lent) (nodeCount s) (e ∙ sym (length-take-le n lent h)) i) ∙ append-nil (codesOf (places s))) j ++ drop (sym e j) lent);

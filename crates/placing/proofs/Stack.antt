@@ -6,7 +6,8 @@ use Prim.Native.Nat.{ℕ, zero, suc, _+_, _-_, _*_, _≤_, _<_}
 use native.Mathlib.Numerals.{add-one}
 use native.Mathlib.Omega.{arith}
 use lib.ListN.{length, getD, set, take, drop, length-set, length-append, length-drop}
-use lib.Seq.{getD-set-same, getD-set-other, getD-at, getD-append-add, take-append-le, drop-cons, drop-length, paste, paste-suc}
+use lib.Seq.{getD-set-same, getD-set-other, getD-at, getD-append-add, take-append-le, drop-cons, drop-length}
+use lib.Seq.{paste, paste-suc}
 use Rattle.placing.specs.Bench.{Item, listedAs, itemAt, stackOf, wordsFor, Named}
 
 -- the two words of entry k
@@ -79,9 +80,11 @@ two-more lent v at k x c e h =
     ∙ ap (paste lent at w) end
 
 -- one entry more
-pub words-more : (lent walk list : List ℕ) (c top at i k j : ℕ) → walk ≡ paste lent (2 * top) (wordsFor c (drop j list)) (2 * i)
+pub words-more : (lent walk list : List ℕ) (c top at i k j : ℕ)
+    → walk ≡ paste lent (2 * top) (wordsFor c (drop j list)) (2 * i)
     → at ≡ top + i → suc k ≡ j → j + i ≡ length list → 2 * at + 1 < length lent
-    → set (set walk (2 * at) (getD list k 0)) (2 * at + 1) c ≡ paste lent (2 * top) (wordsFor c (drop k list)) (2 * (i + 1))
+    → set (set walk (2 * at) (getD list k 0)) (2 * at + 1) c
+    ≡ paste lent (2 * top) (wordsFor c (drop k list)) (2 * (i + 1))
 unfolding wordsFor
 words-more lent walk list c top at i k j e a s n h =
     let v = wordsFor c (drop j list) in

@@ -48,11 +48,12 @@ change s = record { lent = now (s .entry); left = now (s .exit) }
 abbrev pub Wiped : Change → Type 0
 Wiped c = c .left ≡ replicate (length (c .lent)) 0
 
--- What a run leaves: the walk room wiped, the code of each node's place, the placed nodes in order, how many these are, and how many entries were
--- taken. What lies past the nodes, and past the placed ones, is as it was lent.
+-- What a run leaves: the walk room wiped, the code of each node's place, the placed nodes in order, how many these are,
+-- and how many entries were taken. What lies past the nodes, and past the placed ones, is as it was lent.
 pub record Walked (s : Scene) (room codes ids : Change) (taken placed : ℕ) : Type 0 where
   pub walk : Wiped room
   pub places : codes .left ≡ codesOf (placing.places s) ++ drop (nodeCount s) (codes .lent)
-  pub order : ids .left ≡ map (λ (e : placing.Entry). e .node) (placing.order s) ++ drop (length (placing.order s)) (ids .lent)
+  pub order :
+      ids .left ≡ map (λ (e : placing.Entry). e .node) (placing.order s) ++ drop (length (placing.order s)) (ids .lent)
   pub counted : placed ≡ length (placing.order s)
   pub entries : taken ≡ placing.taken s

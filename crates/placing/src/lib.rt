@@ -152,8 +152,8 @@ fn fill(words: &[u32], graph: Graph, walk: &mut [u32], places: &mut [u32], order
     drain(words, graph, walk, places, order, top)
 }
 
-// Places the nodes: the code of each node's place goes to `places`, the placed nodes in order to `order`. Then nothing waits
-// in `walk`.
+// Places the nodes: the code of each node's place goes to `places`, the placed nodes in order to `order`. Then nothing
+// waits in `walk`.
 pub fn place(
     words: &[u32],
     graph: Graph,

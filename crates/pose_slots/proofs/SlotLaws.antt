@@ -39,12 +39,14 @@ module _ (marks : List ℕ) (slots : List Float) (i : ℕ) where
 
   -- as the code cuts the slices
   pub cut-in-room : i < length marks / 4 → i < length slots / 10
-      → slotFrom (take (i * 4 + 4 - i * 4) (drop (i * 4) marks)) (take (i * 10 + 10 - i * 10) (drop (i * 10) slots)) ≡ slotPose marks slots i
+      → slotFrom (take (i * 4 + 4 - i * 4) (drop (i * 4) marks)) (take (i * 10 + 10 - i * 10) (drop (i * 10) slots))
+      ≡ slotPose marks slots i
   unfolding slotPose
   cut-in-room h k =
       let a : i * 4 + 4 - i * 4 ≡ 4 = omega arith in
       let b : i * 10 + 10 - i * 10 ≡ 10 = omega arith in
-      (λ j. slotFrom (take (a j) (drop (i * 4) marks)) (take (b j) (drop (i * 10) slots))) ∙ ap held (sym (lt-ltb i (room marks slots) (omega arith)))
+      (λ j. slotFrom (take (a j) (drop (i * 4) marks)) (take (b j) (drop (i * 10) slots)))
+      ∙ ap held (sym (lt-ltb i (room marks slots) (omega arith)))
 
   -- what a slot holds is what it says
   pub slot-pose : poseOf (slotPose marks slots i) ≡ poseIn marks slots i
@@ -52,7 +54,10 @@ module _ (marks : List ℕ) (slots : List Float) (i : ℕ) where
   slot-pose = go (ltb i (room marks slots)) refl
     where
       go : (b : Bool) → ltb i (room marks slots) ≡ b → poseOf (held b) ≡ told b
-      go true h = said (row 4 marks i) (row 10 slots i) (length-take-le 10 (drop (i * 10) slots) (omega (arith, length-drop (i * 10) slots, ltb-true i (room marks slots) h)))
+      go true h =
+          let rest = drop (i * 10) slots in
+          let enough : 10 ≤ length rest = omega (arith, length-drop (i * 10) slots, ltb-true i (room marks slots) h) in
+          said (row 4 marks i) (row 10 slots i) (length-take-le 10 rest enough)
       go false h = refl
 
 -- ---- what is put

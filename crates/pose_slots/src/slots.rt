@@ -7,7 +7,8 @@ ghost use mathlib.Core.Path.{_≡_};
 ghost use Prim.Native.Nat.{_+_, _*_, _<_, _≤_};
 ghost use lib.ListN.{length};
 ghost use lib.Seq.{paste};
-ghost use Rattle.pose_slots.specs.Slots.{poseOf, restingPose, room, slotFrom, slotPose, markOf, wordsOf, floatsOf};
+ghost use Rattle.pose_slots.specs.Slots.{poseOf, restingPose, room, slotFrom, slotPose};
+ghost use Rattle.pose_slots.specs.Slots.{markOf, wordsOf, floatsOf};
 
 // What the words and floats of one slot hold.
 fn pose_from(four: &[u32], ten: &[f32]) -> NodePose

@@ -61,7 +61,8 @@ returns c =
       walk = f .1 ∙ ap (λ (n : ℕ). replicate n 0) (l .inv .1);
       ended =
           at-last _ _ _ _ _ _ _ _ (l .inv .0) (omega (arith, c .before .before .before .before .if1 .left))
-          ∙ ap (λ (r : Run). record { marks = marks (l .places) (l .order) (r .placed); taken = r .taken }) (sym (f .0));
+          ∙ ap (λ (r : Run). record { marks = marks (l .places) (l .order) (r .placed); taken = r .taken })
+          (sym (f .0));
     }
 
 pub drain-spec : {M : Type 1} → statement M

@@ -15,8 +15,8 @@ returns : tie.Need-returns
 returns c =
     let s = c .before .before .before .before .before .before .before .before .before in
     let f = c .before .before .finish .ensures in
-    walked-none (listingIn (now (s .args .words)) (s .args .graph)) (now (s .args .places)) (node-count _ _ ∙ s .pre .0) (c .before .before .before .before .if1 .taken)
-    _ (f .1) _ _ _ (ap (λ (r : Run). r .taken) (f .0)) (ap (λ (r : Run). r .placed) (f .0))
+    walked-none (listingIn (now (s .args .words)) (s .args .graph)) (now (s .args .places)) (node-count _ _ ∙ s .pre .0)
+    (c .before .before .before .before .if1 .taken) _ (f .1) _ _ _ (ap (λ (r : Run). r .taken) (f .0)) (ap (λ (r : Run). r .placed) (f .0))
 
 start-requires : tie.Need-start-requires
 unfolding listingIn
@@ -34,8 +34,9 @@ returns-2 c =
     let d = c .before .before .before .before .before .before in
     let p = d .before .before .before .before .before .before .before .before in
     let s = p .before .before .before .before .before .before .before .before in
-    walked (listingIn (now (s .args .words)) (s .args .graph)) (now (s .args .places)) (node-count _ _ ∙ s .pre .0) (p .before .before .before .if1 .left)
-    _ _ _ (p .start .ensures) (p .start .kept .1 .1 .0) _ _ _ _ _ _ (omega (arith, s .pre .0, s .pre .1 .0 .1)) (d .drain .ensures)
+    walked (listingIn (now (s .args .words)) (s .args .graph)) (now (s .args .places)) (node-count _ _ ∙ s .pre .0)
+    (p .before .before .before .if1 .left) _ _ _ (p .start .ensures) (p .start .kept .1 .1 .0) _ _ _ _ _ _
+    (omega (arith, s .pre .0, s .pre .1 .0 .1)) (d .drain .ensures)
 
 pub fill-spec : {M : Type 1} → statement M
 fill-spec =

@@ -48,8 +48,8 @@ loop-again c =
           ∙ ap (λ (x : List Item). record { id = getD (s .list .now) (n - (l .i + 1)) 0; code = s .code } ∷ x) (l .inv .3)
           ∙ ap (λ (x : List Item). x ++ stackOf (s .walk .now) (s .top)) (sym (listed-more (s .code) (s .list .now) (n - (l .i + 1)) (n - l .i) (omega arith) (omega arith))),
       simp length-set (l .inv .4),
-      words-more (s .walk .now) (l .walk) (s .list .now) (s .code) (s .top) (l .at) (l .i) (n - (l .i + 1)) (n - l .i) (l .inv .5)
-          (omega arith) (omega arith) (omega arith) (omega arith),
+      words-more (s .walk .now) (l .walk) (s .list .now) (s .code) (s .top) (l .at) (l .i) (n - (l .i + 1)) (n - l .i)
+          (l .inv .5) (omega arith) (omega arith) (omega arith) (omega arith),
     )
 
 returns : tie.Need-returns Inv-loop μ-loop

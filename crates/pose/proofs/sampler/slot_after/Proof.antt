@@ -24,7 +24,8 @@ returns c =
     let t = channelIn (now (a .floats)) (a .row) in (
       ap poseOf (r .receive .ensures) ∙ gift-pose (d .gift-at .result) (q .pose-at .result)
           ∙ sym (d .gift-at .ensures .pose (poseOf (q .pose-at .result)))
-          ∙ ap (λ (p : Pose). bare (drive (a .time) p t)) (ap poseOf (q .pose-at .ensures) ∙ slot-pose (now (a .marks)) (now (a .slots)) (a .row .target)),
+          ∙ ap (λ (p : Pose). bare (drive (a .time) p t))
+          (ap poseOf (q .pose-at .ensures) ∙ slot-pose (now (a .marks)) (now (a .slots)) (a .row .target)),
       c .word-after .ensures ∙ ap (λ (b : Bool). pick b (a .k + 1) (getD (now (a .marks)) (a .row .target * 4 + 3) 0)) (sym (d .gift-at .ensures .weights)),
     )
 

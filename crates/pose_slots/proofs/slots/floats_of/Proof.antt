@@ -21,9 +21,12 @@ returns : tie.Need-returns
 returns c =
     let p = c .before .before .before .before .args .p in
     let rest = c .before .before .before .at-rest .ensures in
-    let t = or-zeros (p .«has_translation») _ (vec3 (p .translation)) _ (replicate 3 zero32) (c .before .before .choose3 .ensures) (ap (λ (q : NodePose). vec3 (q .translation)) rest) in
-    let r = or-zeros (p .«has_rotation») _ (quat (p .rotation)) _ (replicate 4 zero32) (c .before .choose4 .ensures) (ap (λ (q : NodePose). quat (q .rotation)) rest) in
-    let s = or-zeros (p .«has_scale») _ (vec3 (p .scale)) _ (replicate 3 zero32) (c .choose32 .ensures) (ap (λ (q : NodePose). vec3 (q .scale)) rest) in
+    let t = or-zeros (p .«has_translation») _ (vec3 (p .translation)) _ (replicate 3 zero32)
+    (c .before .before .choose3 .ensures) (ap (λ (q : NodePose). vec3 (q .translation)) rest) in
+    let r = or-zeros (p .«has_rotation») _ (quat (p .rotation)) _ (replicate 4 zero32)
+    (c .before .choose4 .ensures) (ap (λ (q : NodePose). quat (q .rotation)) rest) in
+    let s = or-zeros (p .«has_scale») _ (vec3 (p .scale)) _ (replicate 3 zero32)
+    (c .choose32 .ensures) (ap (λ (q : NodePose). vec3 (q .scale)) rest) in
     λ j. t j ++ (r j ++ s j)
 
 pub floats-of-spec : {M : Type 1} → statement M
