@@ -55,7 +55,8 @@ pub fn world_mesh_at<'a>(
     normals: &mut [f32],
     tangents: &mut [f32],
 ) -> Answer
-    ensures { λ r. ⌜ Baked (sceneLent words floats «node_weights» «mesh_weights» h) node time (room marks slots walk places worlds positions normals tangents) r ⌝ }
+    ensures { λ r. ⌜ Baked (sceneLent words floats «node_weights» «mesh_weights» h) node time
+        (room marks slots walk places worlds positions normals tangents) r ⌝ }
 {
     let number = bake_stages::first_number(
         words,

@@ -23,7 +23,8 @@ pub extern "C" fn bake_floats<'a>(
     normals: &mut [f32],
     tangents: &mut [f32],
 ) -> bake::Answer
-    ensures { λ r. ⌜ Baked (sceneLent words floats «node_weights» «mesh_weights» header) node time (room marks slots walk places worlds positions normals tangents) r ⌝ }
+    ensures { λ r. ⌜ Baked (sceneLent words floats «node_weights» «mesh_weights» header) node time
+        (room marks slots walk places worlds positions normals tangents) r ⌝ }
 {
     bake::world_mesh_at(
         words,

@@ -30,7 +30,8 @@ fn early_number(
     poses: usize,
     worlds: usize,
 ) -> u32
-    ensures { λ r. ⌜ r ≡ earlyFor (sceneLent words floats «node_weights» «mesh_weights» h) time (record { walkRoom = walk; poseSlots = poses; worldSlots = worlds }) ⌝ }
+    ensures { λ r. ⌜ r ≡ earlyFor (sceneLent words floats «node_weights» «mesh_weights» h) time
+        (record { walkRoom = walk; poseSlots = poses; worldSlots = worlds }) ⌝ }
 {
     let drawn = checks::tables_number(words, floats, node_weights, mesh_weights, h);
     if drawn != 0 {
@@ -68,7 +69,8 @@ pub fn first_number(
     poses: usize,
     worlds: usize,
 ) -> u32
-    ensures { λ r. ⌜ r ≡ firstFor (sceneLent words floats «node_weights» «mesh_weights» h) node time (record { walkRoom = walk; poseSlots = poses; worldSlots = worlds }) ⌝ }
+    ensures { λ r. ⌜ r ≡ firstFor (sceneLent words floats «node_weights» «mesh_weights» h) node time
+        (record { walkRoom = walk; poseSlots = poses; worldSlots = worlds }) ⌝ }
 {
     let number = early_number(
         words,
@@ -112,7 +114,9 @@ pub fn late_number(
     places: &[u32],
     fit: bool,
 ) -> u32
-    ensures { λ r. ⌜ ((own mesh slots : List Float) → r ≡ lateFor (lentAs (now (words .entry)) (now (floats .entry)) own mesh h) node (now (places .entry)) slots fit) ⌝ }
+    ensures { λ r. ⌜ ((own mesh slots : List Float) → r
+        ≡ lateFor (lentAs (now (words .entry)) (now (floats .entry)) own mesh h) node
+        (now (places .entry)) slots fit) ⌝ }
 {
     let nodes = h.graph.nodes;
     if is_placed(places, nodes.count, node) {

@@ -16,7 +16,9 @@ pub(crate) fn can_have_palette(
     skin: Reference,
     places: &[u32],
 ) -> bool
-    ensures { λ r. ⌜ ((own mesh slots : List Float) → r ≡ isSome (paletteFrom (lentAs (now (words .entry)) (now (floats .entry)) own mesh h) skin (now (places .entry)) slots)) ⌝ }
+    ensures { λ r. ⌜ ((own mesh slots : List Float) → r
+        ≡ isSome (paletteFrom (lentAs (now (words .entry)) (now (floats .entry)) own mesh h) skin
+        (now (places .entry)) slots)) ⌝ }
 {
     if !tables::is_marked(skin.mark) {
         return true;

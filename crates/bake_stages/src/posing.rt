@@ -13,7 +13,8 @@ pub fn pose_and_place(
     places: &mut [u32],
     worlds: &mut [f32],
 ) -> usize
-    requires { ⌜ Ready (now words) (now floats) h time (record { marks = now marks; slots = now slots; walk = now walk; places = now places; worlds = now worlds }) ⌝ }
+    requires { ⌜ Ready (now words) (now floats) h time
+        (record { marks = now marks; slots = now slots; walk = now walk; places = now places; worlds = now worlds }) ⌝ }
     ensures { λ r. ⌜ PosedAndPlaced words floats h time (scratchRoom marks slots walk places worlds) r ⌝ }
 {
     let graph = h.graph;

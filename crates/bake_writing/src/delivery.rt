@@ -13,7 +13,8 @@ ghost use Rattle.bake_writing.specs.Delivered.{partOf, SkeletonsWithin, 
 
 // The record of a node's mesh.
 pub fn mesh_of(words: &[u32], h: Header, node: u32) -> MeshRow
-    ensures { λ r. ⌜ r ≡ meshRow (now (words .entry)) (h .meshes .meshes) (nodeRow (now (words .entry)) (h .graph .nodes) node .mesh .id) ⌝ }
+    ensures { λ r. ⌜ r ≡ meshRow (now (words .entry)) (h .meshes .meshes)
+        (nodeRow (now (words .entry)) (h .graph .nodes) node .mesh .id) ⌝ }
 {
     let nodes = h.graph.nodes;
     let row = tables::node_row(words, nodes, wide(node));
@@ -37,8 +38,12 @@ pub fn deliver<'a>(
     normals: &mut [f32],
     tangents: &mut [f32],
 )
-    requires { ⌜ Drawable (now words) (now floats) (h .meshes .primitives) (partOf (now words) h node) × AtMost (lengthsBelow (now words) (h .meshes .primitives) (partOf (now words) h node) (partOf (now words) h node .count)) (length (now positions)) (length (now normals)) (length (now tangents)) × SkeletonsWithin (now words) (h .skins .skeletons) ⌝ }
-    ensures { λ _. ⌜ Delivers (sceneLent words floats «node_weights» «mesh_weights» h) node time marks places worlds positions normals tangents ⌝ }
+    requires { ⌜ Drawable (now words) (now floats) (h .meshes .primitives) (partOf (now words) h node)
+        × AtMost (lengthsBelow (now words) (h .meshes .primitives) (partOf (now words) h node)
+        (partOf (now words) h node .count)) (length (now positions)) (length (now normals)) (length (now tangents))
+        × SkeletonsWithin (now words) (h .skins .skeletons) ⌝ }
+    ensures { λ _. ⌜ Delivers (sceneLent words floats «node_weights» «mesh_weights» h) node time marks places worlds
+        positions normals tangents ⌝ }
 {
     let mut blend = [0.0f32; WEIGHT_LIMIT];
     let mesh = mesh_of(words, h, node);

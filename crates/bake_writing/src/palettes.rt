@@ -17,7 +17,9 @@ ghost use Rattle.bake_writing.specs.Delivered.{SkeletonsWithin, MeshPutO
 
 // How many joint matrices the palette of a skin has; 0 where there is none.
 fn joints_of(words: &[u32], floats: &[f32], h: Header, skin: u32, places: &[u32]) -> usize
-    ensures { λ r. ⌜ ((own mesh slots : List Float) → r ≡ length (orElse (skinPaletteFrom (lentAs (now (words .entry)) (now (floats .entry)) own mesh h) skin (now (places .entry)) slots) [])) ⌝ }
+    ensures { λ r. ⌜ ((own mesh slots : List Float) → r
+        ≡ length (orElse (skinPaletteFrom (lentAs (now (words .entry)) (now (floats .entry)) own mesh h) skin
+        (now (places .entry)) slots) [])) ⌝ }
 {
     let Joints::Count(n) = skin::palette_count(words, floats, h, skin, places) else {
         return 0;
@@ -40,8 +42,13 @@ fn put_skinned(
     normals: &mut [f32],
     tangents: &mut [f32],
 )
-    requires { ⌜ Drawable (now words) (now floats) (h .meshes .primitives) part × AtMost (lengthsBelow (now words) (h .meshes .primitives) part (part .count)) (length (now positions)) (length (now normals)) (length (now tangents)) × SkeletonsWithin (now words) (h .skins .skeletons) ⌝ }
-    ensures { λ _. ⌜ ((own mesh : List Float) (p : List Matrix) → skinPaletteFrom (lentAs (now (words .entry)) (now (floats .entry)) own mesh h) skin (now (places .entry)) (now (worlds .entry)) ≡ some p → MeshPutOut words floats h part (world .m) (some p) weights positions normals tangents) ⌝ }
+    requires { ⌜ Drawable (now words) (now floats) (h .meshes .primitives) part
+        × AtMost (lengthsBelow (now words) (h .meshes .primitives) part (part .count)) (length (now positions))
+        (length (now normals)) (length (now tangents)) × SkeletonsWithin (now words) (h .skins .skeletons) ⌝ }
+    ensures { λ _. ⌜ ((own mesh : List Float) (p : List Matrix)
+        → skinPaletteFrom (lentAs (now (words .entry)) (now (floats .entry)) own mesh h) skin (now (places .entry))
+        (now (worlds .entry)) ≡ some p → MeshPutOut words floats h part (world .m)
+        (some p) weights positions normals tangents) ⌝ }
 {
     let mut palette = [0.0f32; 4096];
     skin::write_palette(words, floats, h, skin, places, worlds, &mut palette);
@@ -76,8 +83,13 @@ pub(crate) fn put_out(
     normals: &mut [f32],
     tangents: &mut [f32],
 )
-    requires { ⌜ Drawable (now words) (now floats) (h .meshes .primitives) part × AtMost (lengthsBelow (now words) (h .meshes .primitives) part (part .count)) (length (now positions)) (length (now normals)) (length (now tangents)) × SkeletonsWithin (now words) (h .skins .skeletons) ⌝ }
-    ensures { λ _. ⌜ ((own mesh : List Float) (p : Option (List Matrix)) → paletteFrom (lentAs (now (words .entry)) (now (floats .entry)) own mesh h) skin (now (places .entry)) (now (worlds .entry)) ≡ some p → MeshPutOut words floats h part (world .m) p weights positions normals tangents) ⌝ }
+    requires { ⌜ Drawable (now words) (now floats) (h .meshes .primitives) part
+        × AtMost (lengthsBelow (now words) (h .meshes .primitives) part (part .count)) (length (now positions))
+        (length (now normals)) (length (now tangents)) × SkeletonsWithin (now words) (h .skins .skeletons) ⌝ }
+    ensures { λ _. ⌜ ((own mesh : List Float) (p : Option (List Matrix))
+        → paletteFrom (lentAs (now (words .entry)) (now (floats .entry)) own mesh h) skin (now (places .entry))
+        (now (worlds .entry)) ≡ some p → MeshPutOut words floats h part
+        (world .m) p weights positions normals tangents) ⌝ }
 {
     if tables::is_marked(skin.mark) {
         put_skinned(

@@ -21,7 +21,8 @@ fn posed_weights(
     time: f32,
     out: &mut [f32; WEIGHT_LIMIT],
 ) -> usize
-    ensures { λ r. ⌜ Weighed (now (floats .entry)) (channelRow (now (words .entry)) channels k) time (now (out .exit)) r ⌝ }
+    ensures { λ r. ⌜ Weighed (now (floats .entry)) (channelRow (now (words .entry)) channels k) time
+        (now (out .exit)) r ⌝ }
 {
     let t = tables::track_of(tables::channel_row(words, channels, k));
     match animation::sample(floats, t, time, out) {
@@ -40,7 +41,8 @@ fn unposed_weights<'a>(
     mesh: MeshRow,
     out: &mut [f32; WEIGHT_LIMIT],
 ) -> usize
-    ensures { λ r. ⌜ Unposed (now («node_weights» .entry)) (now («mesh_weights» .entry)) node mesh (now (out .exit)) r ⌝ }
+    ensures { λ r. ⌜ Unposed (now («node_weights» .entry)) (now («mesh_weights» .entry)) node mesh
+        (now (out .exit)) r ⌝ }
 {
     wire::copy_floats(
         skin::weights_of(node_weights, mesh_weights, node, mesh),
@@ -73,7 +75,8 @@ pub(crate) fn weights_into<'a>(
     marks: &[u32],
     out: &mut [f32; WEIGHT_LIMIT],
 ) -> usize
-    ensures { λ r. ⌜ Blending (sceneLent words floats «node_weights» «mesh_weights» h) time (now (marks .entry)) node mesh (now (out .exit)) r ⌝ }
+    ensures { λ r. ⌜ Blending (sceneLent words floats «node_weights» «mesh_weights» h) time
+        (now (marks .entry)) node mesh (now (out .exit)) r ⌝ }
 {
     let i = wide(node);
     let word = weights_word(marks, i);

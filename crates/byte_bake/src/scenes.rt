@@ -27,7 +27,9 @@ pub extern "C" fn bake(
     normals: &mut [u8],
     tangents: &mut [u8],
 ) -> Answer
-    ensures { λ r. ⌜ BakedBytes (bytesDrawn words floats «node_weights» «mesh_weights» header) (bytesLent words floats «node_weights» «mesh_weights» header) node (ofBits binary32 time) (byteRoom marks slots walk places worlds positions normals tangents) r ⌝ }
+    ensures { λ r. ⌜ BakedBytes (bytesDrawn words floats «node_weights» «mesh_weights» header)
+        (bytesLent words floats «node_weights» «mesh_weights» header) node (ofBits binary32 time)
+        (byteRoom marks slots walk places worlds positions normals tangents) r ⌝ }
 {
     let number = lent_bytes::over_number(
         words.len() / 4,

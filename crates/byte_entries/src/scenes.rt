@@ -19,7 +19,9 @@ pub extern "C" fn place(
     places: &mut [u8],
     worlds: &mut [u8],
 ) -> Answer
-    ensures { λ r. ⌜ PlacesBytes (bytesDrawn words floats «node_weights» «mesh_weights» header) (bytesLent words floats «node_weights» «mesh_weights» header) (marksIn (now (marks .entry))) (slotsIn (now (slots .entry))) walk places worlds r ⌝ }
+    ensures { λ r. ⌜ PlacesBytes (bytesDrawn words floats «node_weights» «mesh_weights» header)
+        (bytesLent words floats «node_weights» «mesh_weights» header) (marksIn (now (marks .entry)))
+        (slotsIn (now (slots .entry))) walk places worlds r ⌝ }
 {
     let number = lent_bytes::over_number(
         words.len() / 4,

@@ -23,7 +23,8 @@ fn place_pose(
     places: &mut [u8],
     worlds: &mut [u8],
 ) -> Answer
-    ensures { λ r. ⌜ PlacesLent (sceneLent words floats «node_weights» «mesh_weights» h) (marksIn (now (marks .entry))) (slotsIn (now (slots .entry))) walk places worlds r ⌝ }
+    ensures { λ r. ⌜ PlacesLent (sceneLent words floats «node_weights» «mesh_weights» h)
+        (marksIn (now (marks .entry))) (slotsIn (now (slots .entry))) walk places worlds r ⌝ }
 {
     let mut four = [0u32; MARKS];
     let mut ten = [0.0f32; SLOTS];
@@ -55,7 +56,8 @@ fn place_weights(
     places: &mut [u8],
     worlds: &mut [u8],
 ) -> Answer
-    ensures { λ r. ⌜ PlacesLent (weightsDecoded words floats «node_weights» «mesh_weights» h) (marksIn (now (marks .entry))) (slotsIn (now (slots .entry))) walk places worlds r ⌝ }
+    ensures { λ r. ⌜ PlacesLent (weightsDecoded words floats «node_weights» «mesh_weights» h)
+        (marksIn (now (marks .entry))) (slotsIn (now (slots .entry))) walk places worlds r ⌝ }
 {
     let mut of_nodes = [0.0f32; FLOATS];
     let mut of_meshes = [0.0f32; FLOATS];
@@ -88,7 +90,8 @@ pub fn place_decoded(
     places: &mut [u8],
     worlds: &mut [u8],
 ) -> Answer
-    ensures { λ r. ⌜ PlacesLent (startDecoded words floats «node_weights» «mesh_weights» h) (marksIn (now (marks .entry))) (slotsIn (now (slots .entry))) walk places worlds r ⌝ }
+    ensures { λ r. ⌜ PlacesLent (startDecoded words floats «node_weights» «mesh_weights» h)
+        (marksIn (now (marks .entry))) (slotsIn (now (slots .entry))) walk places worlds r ⌝ }
 {
     let mut records = [0u32; WORDS];
     let mut numbers = [0.0f32; FLOATS];

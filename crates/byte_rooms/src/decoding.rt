@@ -25,7 +25,8 @@ fn bake_weights(
     normals: &mut [u8],
     tangents: &mut [u8],
 ) -> Answer
-    ensures { λ r. ⌜ BakedLent (weightsDecoded words floats «node_weights» «mesh_weights» h) node time (byteRoom marks slots walk places worlds positions normals tangents) r ⌝ }
+    ensures { λ r. ⌜ BakedLent (weightsDecoded words floats «node_weights» «mesh_weights» h) node time
+        (byteRoom marks slots walk places worlds positions normals tangents) r ⌝ }
 {
     let mut of_nodes = [0.0f32; FLOATS];
     let mut of_meshes = [0.0f32; FLOATS];
@@ -68,7 +69,8 @@ pub fn bake_decoded(
     normals: &mut [u8],
     tangents: &mut [u8],
 ) -> Answer
-    ensures { λ r. ⌜ BakedLent (startDecoded words floats «node_weights» «mesh_weights» h) node time (byteRoom marks slots walk places worlds positions normals tangents) r ⌝ }
+    ensures { λ r. ⌜ BakedLent (startDecoded words floats «node_weights» «mesh_weights» h) node time
+        (byteRoom marks slots walk places worlds positions normals tangents) r ⌝ }
 {
     let mut records = [0u32; WORDS];
     let mut numbers = [0.0f32; FLOATS];

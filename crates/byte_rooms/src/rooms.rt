@@ -40,8 +40,21 @@ fn bake_over<'a>(
     normal_bytes: &mut [u8],
     tangent_bytes: &mut [u8],
 ) -> Answer
-    requires { ⌜ ScratchUsed (record { marks = now marks; slots = now slots; walk = now walk; places = now places; worlds = now worlds }) (record { marks = now «mark_bytes»; slots = now «slot_bytes»; walk = now «walk_bytes»; places = now «place_bytes»; worlds = now «world_bytes» }) ⌝ }
-    requires { ⌜ OutputUsed (record { positions = now positions; normals = now normals; tangents = now tangents }) (record { positions = now «position_bytes»; normals = now «normal_bytes»; tangents = now «tangent_bytes» }) ⌝ }
+    requires { ⌜ ScratchUsed (record {
+      marks = now marks;
+      slots = now slots;
+      walk = now walk;
+      places = now places;
+      worlds = now worlds;
+    }) (record {
+      marks = now «mark_bytes»;
+      slots = now «slot_bytes»;
+      walk = now «walk_bytes»;
+      places = now «place_bytes»;
+      worlds = now «world_bytes»;
+    }) ⌝ }
+    requires { ⌜ OutputUsed (record { positions = now positions; normals = now normals; tangents = now tangents })
+        (record { positions = now «position_bytes»; normals = now «normal_bytes»; tangents = now «tangent_bytes» }) ⌝ }
     ensures { λ r. ⌜ BakedLent (sceneLent words floats «node_weights» «mesh_weights» h) node time (byteRoom «mark_bytes» «slot_bytes» «walk_bytes» «place_bytes» «world_bytes»
         «position_bytes» «normal_bytes» «tangent_bytes») r ⌝ }
 {
@@ -109,7 +122,19 @@ fn bake_outputs<'a>(
     normal_bytes: &mut [u8],
     tangent_bytes: &mut [u8],
 ) -> Answer
-    requires { ⌜ ScratchUsed (record { marks = now marks; slots = now slots; walk = now walk; places = now places; worlds = now worlds }) (record { marks = now «mark_bytes»; slots = now «slot_bytes»; walk = now «walk_bytes»; places = now «place_bytes»; worlds = now «world_bytes» }) ⌝ }
+    requires { ⌜ ScratchUsed (record {
+      marks = now marks;
+      slots = now slots;
+      walk = now walk;
+      places = now places;
+      worlds = now worlds;
+    }) (record {
+      marks = now «mark_bytes»;
+      slots = now «slot_bytes»;
+      walk = now «walk_bytes»;
+      places = now «place_bytes»;
+      worlds = now «world_bytes»;
+    }) ⌝ }
     ensures { λ r. ⌜ BakedLent (sceneLent words floats «node_weights» «mesh_weights» h) node time (byteRoom «mark_bytes» «slot_bytes» «walk_bytes» «place_bytes» «world_bytes»
         «position_bytes» «normal_bytes» «tangent_bytes») r ⌝ }
 {

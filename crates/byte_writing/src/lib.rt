@@ -66,8 +66,21 @@ fn write_scratch(
     place_bytes: &mut [u8],
     world_bytes: &mut [u8],
 )
-    requires { ⌜ ScratchFits n (record { marks = now marks; slots = now slots; walk = now walk; places = now places; worlds = now worlds }) (record { marks = now «mark_bytes»; slots = now «slot_bytes»; walk = now «walk_bytes»; places = now «place_bytes»; worlds = now «world_bytes» }) ⌝ }
-    ensures { λ _. ⌜ ScratchWritten n (scratchRoom marks slots walk places worlds) (byteScratch «mark_bytes» «slot_bytes» «walk_bytes» «place_bytes» «world_bytes») ⌝ }
+    requires { ⌜ ScratchFits n (record {
+      marks = now marks;
+      slots = now slots;
+      walk = now walk;
+      places = now places;
+      worlds = now worlds;
+    }) (record {
+      marks = now «mark_bytes»;
+      slots = now «slot_bytes»;
+      walk = now «walk_bytes»;
+      places = now «place_bytes»;
+      worlds = now «world_bytes»;
+    }) ⌝ }
+    ensures { λ _. ⌜ ScratchWritten n (scratchRoom marks slots walk places worlds)
+        (byteScratch «mark_bytes» «slot_bytes» «walk_bytes» «place_bytes» «world_bytes») ⌝ }
 {
     let m = n.marks;
     let s = n.slots;
@@ -90,8 +103,10 @@ fn write_outputs(
     normal_bytes: &mut [u8],
     tangent_bytes: &mut [u8],
 )
-    requires { ⌜ OutputFits n (record { positions = now positions; normals = now normals; tangents = now tangents }) (record { positions = now «position_bytes»; normals = now «normal_bytes»; tangents = now «tangent_bytes» }) ⌝ }
-    ensures { λ _. ⌜ OutputWritten n positions normals tangents (byteOutput «position_bytes» «normal_bytes» «tangent_bytes») ⌝ }
+    requires { ⌜ OutputFits n (record { positions = now positions; normals = now normals; tangents = now tangents })
+        (record { positions = now «position_bytes»; normals = now «normal_bytes»; tangents = now «tangent_bytes» }) ⌝ }
+    ensures { λ _. ⌜ OutputWritten n positions normals tangents
+        (byteOutput «position_bytes» «normal_bytes» «tangent_bytes») ⌝ }
 {
     let p = n.positions;
     let q = n.normals;
@@ -121,8 +136,21 @@ pub fn write_back(
     normal_bytes: &mut [u8],
     tangent_bytes: &mut [u8],
 )
-    requires { ⌜ ScratchFits n (record { marks = now marks; slots = now slots; walk = now walk; places = now places; worlds = now worlds }) (record { marks = now «mark_bytes»; slots = now «slot_bytes»; walk = now «walk_bytes»; places = now «place_bytes»; worlds = now «world_bytes» }) ⌝ }
-    requires { ⌜ OutputFits n (record { positions = now positions; normals = now normals; tangents = now tangents }) (record { positions = now «position_bytes»; normals = now «normal_bytes»; tangents = now «tangent_bytes» }) ⌝ }
+    requires { ⌜ ScratchFits n (record {
+      marks = now marks;
+      slots = now slots;
+      walk = now walk;
+      places = now places;
+      worlds = now worlds;
+    }) (record {
+      marks = now «mark_bytes»;
+      slots = now «slot_bytes»;
+      walk = now «walk_bytes»;
+      places = now «place_bytes»;
+      worlds = now «world_bytes»;
+    }) ⌝ }
+    requires { ⌜ OutputFits n (record { positions = now positions; normals = now normals; tangents = now tangents })
+        (record { positions = now «position_bytes»; normals = now «normal_bytes»; tangents = now «tangent_bytes» }) ⌝ }
     ensures { λ _. ⌜ RoomWritten n (room marks slots walk places worlds positions normals tangents)
         (byteRoom «mark_bytes» «slot_bytes» «walk_bytes» «place_bytes» «world_bytes» «position_bytes» «normal_bytes» «tangent_bytes») ⌝ }
 {

@@ -25,7 +25,8 @@ pub fn deltas_in(floats: &[f32], s: Slot) -> &[f32]
 
 // Adds w times each delta to the row of three that it belongs to. It counts floats, and not rows, for speed.
 pub fn add_scaled(out: &mut [f32], w: f32, deltas: &[f32])
-    ensures { λ _. ⌜ now (out .exit) ≡ overRows 3 (withDeltas (λ v d. v ⊞ w ⊙ d) (rowsIn 3 (now (out .entry))) (rowsIn 3 (now (deltas .entry)))) (now (out .entry)) ⌝ }
+    ensures { λ _. ⌜ now (out .exit) ≡ overRows 3 (withDeltas (λ v d. v ⊞ w ⊙ d) (rowsIn 3 (now (out .entry)))
+        (rowsIn 3 (now (deltas .entry)))) (now (out .entry)) ⌝ }
 {
     let n = wire::least(out.len() / 3, deltas.len() / 3) * 3;
     let mut k = 0;
@@ -37,7 +38,8 @@ pub fn add_scaled(out: &mut [f32], w: f32, deltas: &[f32])
 
 // The same for tangents, rows of four, of which the fourth number stays.
 pub fn add_tangents(out: &mut [f32], w: f32, deltas: &[f32])
-    ensures { λ _. ⌜ now (out .exit) ≡ overRows 4 (withDeltas (λ v d. (take 3 v ⊞ w ⊙ d) ++ drop 3 v) (rowsIn 4 (now (out .entry))) (rowsIn 3 (now (deltas .entry)))) (now (out .entry)) ⌝ }
+    ensures { λ _. ⌜ now (out .exit) ≡ overRows 4 (withDeltas (λ v d. (take 3 v ⊞ w ⊙ d) ++ drop 3 v)
+        (rowsIn 4 (now (out .entry))) (rowsIn 3 (now (deltas .entry)))) (now (out .entry)) ⌝ }
 {
     let n = wire::least(out.len() / 4, deltas.len() / 3);
     let mut i = 0;
@@ -67,7 +69,8 @@ fn float_or_zero(floats: &[f32], n: usize, k: usize) -> f32
 
 // Adds to each of the first `count` rows what lies t of the way from its low delta to its high one.
 pub fn add_between(out: &mut [f32], t: f32, low: &[f32], high: &[f32], count: usize)
-    ensures { λ _. ⌜ now (out .exit) ≡ overRows 3 (withDeltas _⊞_ (rowsIn 3 (now (out .entry))) (tabulate count (mixedIn t (now (low .entry)) (now (high .entry))))) (now (out .entry)) ⌝ }
+    ensures { λ _. ⌜ now (out .exit) ≡ overRows 3 (withDeltas _⊞_ (rowsIn 3 (now (out .entry)))
+        (tabulate count (mixedIn t (now (low .entry)) (now (high .entry))))) (now (out .entry)) ⌝ }
 {
     let n = wire::least(out.len() / 3, count) * 3;
     let lows = low.len() / 3 * 3;

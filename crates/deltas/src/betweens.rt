@@ -38,7 +38,8 @@ fn is_valid(w: f32) -> bool
 
 // Whether an in-between of a part has a valid weight.
 pub fn has_valid(words: &[u32], floats: &[f32], h: Header, betweens: Part) -> bool
-    ensures { λ r. ⌜ r ≡ anyOf (λ (b : InBetween). valid (b .weight)) (betweensIn (now (words .entry)) (now (floats .entry)) h betweens) ⌝ }
+    ensures { λ r. ⌜ r ≡ anyOf (λ (b : InBetween). valid (b .weight))
+        (betweensIn (now (words .entry)) (now (floats .entry)) h betweens) ⌝ }
 {
     let count = betweens.count;
     let mut k = 0;

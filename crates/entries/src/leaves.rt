@@ -40,7 +40,8 @@ pub extern "C" fn narrow_all(xs: &[f64], out: &mut [f32]) -> usize
 // The turn weight at each v and c.
 #[no_mangle]
 pub extern "C" fn turn_weight_all(vs: &[f32], cs: &[f32], out: &mut [f32]) -> usize
-    ensures { λ r. ⌜ Wrote (zipWith weight (now (vs .entry)) (now (cs .entry))) (now (out .entry)) (now (out .exit)) r ⌝ }
+    ensures { λ r. ⌜ Wrote (zipWith weight (now (vs .entry)) (now (cs .entry))) (now (out .entry))
+        (now (out .exit)) r ⌝ }
 {
     let n = wire::least(wire::least(vs.len(), cs.len()), out.len());
     let mut i = 0;

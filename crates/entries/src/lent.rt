@@ -32,7 +32,8 @@ pub extern "C" fn parents(
     header: Header,
     out: &mut [u32],
 ) -> u32
-    ensures { λ r. ⌜ Parents (sceneLent words floats «node_weights» «mesh_weights» header) (now (out .entry)) (now (out .exit)) r ⌝ }
+    ensures { λ r. ⌜ Parents (sceneLent words floats «node_weights» «mesh_weights» header) (now (out .entry))
+        (now (out .exit)) r ⌝ }
 {
     graph::parents(words, floats, node_weights, mesh_weights, header, out)
 }
@@ -51,7 +52,9 @@ pub extern "C" fn place_floats(
     places: &mut [u32],
     worlds: &mut [f32],
 ) -> Answer
-    ensures { λ r. ⌜ Placed (sceneLent words floats «node_weights» «mesh_weights» header) (now (marks .entry)) (now (slots .entry)) (now (walk .entry)) (now (walk .exit)) (now (places .entry)) (now (places .exit)) (now (worlds .entry)) (now (worlds .exit)) r ⌝ }
+    ensures { λ r. ⌜ Placed (sceneLent words floats «node_weights» «mesh_weights» header) (now (marks .entry))
+        (now (slots .entry)) (now (walk .entry)) (now (walk .exit)) (now (places .entry)) (now (places .exit))
+        (now (worlds .entry)) (now (worlds .exit)) r ⌝ }
 {
     worlds::posed_node_transforms(
         words,
@@ -79,7 +82,8 @@ pub extern "C" fn sample_pose(
     marks: &mut [u32],
     slots: &mut [f32],
 ) -> u32
-    ensures { λ r. ⌜ Posed (sceneLent words floats «node_weights» «mesh_weights» header) time (now (marks .entry)) (now (slots .entry)) (now (marks .exit)) (now (slots .exit)) r ⌝ }
+    ensures { λ r. ⌜ Posed (sceneLent words floats «node_weights» «mesh_weights» header) time (now (marks .entry))
+        (now (slots .entry)) (now (marks .exit)) (now (slots .exit)) r ⌝ }
 {
     pose::sample_pose(
         words,

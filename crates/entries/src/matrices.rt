@@ -192,7 +192,8 @@ pub extern "C" fn scene_trs_to_matrix(
     scale: &[f32; 3],
     out: &mut [f32; 16],
 )
-    ensures { λ _. ⌜ now (out .exit) ≡ fromTrs (trsOf (now (translation .entry)) (now (rotation .entry)) (now (scale .entry))) ⌝ }
+    ensures { λ _. ⌜ now (out .exit) ≡ fromTrs (trsOf (now (translation .entry)) (now (rotation .entry))
+        (now (scale .entry))) ⌝ }
 {
     let translation = *translation;
     let rotation = *rotation;
@@ -227,7 +228,8 @@ pub extern "C" fn scene_to_matrix(
     m: &[f32; 16],
     out: &mut [f32; 16],
 )
-    ensures { λ _. ⌜ now (out .exit) ≡ toMatrix (chosen mark (trsOf (now (translation .entry)) (now (rotation .entry)) (now (scale .entry))) (now (m .entry))) ⌝ }
+    ensures { λ _. ⌜ now (out .exit) ≡ toMatrix (chosen mark
+        (trsOf (now (translation .entry)) (now (rotation .entry)) (now (scale .entry))) (now (m .entry))) ⌝ }
 {
     let translation = *translation;
     let rotation = *rotation;
@@ -263,7 +265,8 @@ pub extern "C" fn scene_from_matrix(
     rotation: &mut [f32; 4],
     scale: &mut [f32; 3],
 )
-    ensures { λ _. ⌜ trsOf (now (translation .exit)) (now (rotation .exit)) (now (scale .exit)) ≡ split (now (m .entry)) ⌝ }
+    ensures { λ _. ⌜ trsOf (now (translation .exit)) (now (rotation .exit)) (now (scale .exit))
+        ≡ split (now (m .entry)) ⌝ }
 {
     let m = *m;
     let r = scene::from_matrix(Mat4 { m });

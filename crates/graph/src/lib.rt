@@ -17,7 +17,8 @@ pub fn parents(
     h: Header,
     out: &mut [u32],
 ) -> u32
-    ensures { λ r. ⌜ Parents (sceneLent words floats «node_weights» «mesh_weights» h) (now (out .entry)) (now (out .exit)) r ⌝ }
+    ensures { λ r. ⌜ Parents (sceneLent words floats «node_weights» «mesh_weights» h) (now (out .entry))
+        (now (out .exit)) r ⌝ }
 {
     let number = checks::tables_number(words, floats, node_weights, mesh_weights, h);
     if number != 0 {

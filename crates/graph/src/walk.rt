@@ -36,7 +36,8 @@ fn list_roots(roots: &[u32], ids: &mut [u32], marks: &mut [u32]) -> usize
 // Node p lists x. Returns how many wait.
 fn list_one(p: u32, x: u32, ids: &mut [u32], marks: &mut [u32], top: usize) -> usize
     requires { ⌜ (p < nodeLimit) × (top + zeros (now marks) ≤ length (now ids)) ⌝ }
-    ensures { λ r. ⌜ Turned (markOne p x) (now (ids .entry)) top (now (marks .entry)) (now (ids .exit)) r (now (marks .exit)) ⌝ }
+    ensures { λ r. ⌜ Turned (markOne p x) (now (ids .entry)) top (now (marks .entry)) (now (ids .exit)) r
+        (now (marks .exit)) ⌝ }
 {
     let k = x as usize;
     if k < marks.len() {
@@ -52,7 +53,8 @@ fn list_one(p: u32, x: u32, ids: &mut [u32], marks: &mut [u32], top: usize) -> u
 // Node p lists all of `list`, the last first. Returns how many wait.
 fn list_all(p: u32, list: &[u32], ids: &mut [u32], marks: &mut [u32], top: usize) -> usize
     requires { ⌜ (p < nodeLimit) × (top + zeros (now marks) ≤ length (now ids)) ⌝ }
-    ensures { λ r. ⌜ Turned (markAll p (now (list .entry))) (now (ids .entry)) top (now (marks .entry)) (now (ids .exit)) r (now (marks .exit)) ⌝ }
+    ensures { λ r. ⌜ Turned (markAll p (now (list .entry))) (now (ids .entry)) top (now (marks .entry))
+        (now (ids .exit)) r (now (marks .exit)) ⌝ }
 {
     let mut at = top;
     let mut i = list.len();
@@ -67,7 +69,8 @@ fn list_all(p: u32, list: &[u32], ids: &mut [u32], marks: &mut [u32], top: usize
 // Takes the id at the top. Returns how many wait.
 fn step(words: &[u32], nodes: Part, ids: &mut [u32], marks: &mut [u32], top: usize) -> usize
     requires { ⌜ (0 < top) × (top + zeros (now marks) ≤ length (now ids)) × (length (now marks) ≤ nodeLimit) ⌝ }
-    ensures { λ r. ⌜ Turned (takeId (childrenIn (now (words .entry)) nodes) (getD (now (ids .entry)) (top - 1) 0)) (now (ids .entry)) (top - 1) (now (marks .entry)) (now (ids .exit)) r (now (marks .exit)) ⌝ }
+    ensures { λ r. ⌜ Turned (takeId (childrenIn (now (words .entry)) nodes) (getD (now (ids .entry)) (top - 1) 0))
+        (now (ids .entry)) (top - 1) (now (marks .entry)) (now (ids .exit)) r (now (marks .exit)) ⌝ }
 {
     let t = top - 1;
     let id = ids[t];
@@ -83,7 +86,8 @@ fn step(words: &[u32], nodes: Part, ids: &mut [u32], marks: &mut [u32], top: usi
 // Takes all that waits.
 fn drain(words: &[u32], nodes: Part, ids: &mut [u32], marks: &mut [u32], top: usize)
     requires { ⌜ (top + zeros (now marks) ≤ length (now ids)) × (length (now marks) ≤ nodeLimit) ⌝ }
-    ensures { λ _. ⌜ Drained (now (words .entry)) nodes (now (ids .entry)) top (now (marks .entry)) (now (marks .exit)) ⌝ }
+    ensures { λ _. ⌜ Drained (now (words .entry)) nodes (now (ids .entry)) top (now (marks .entry))
+        (now (marks .exit)) ⌝ }
 {
     let mut left = top;
     while 0 < left {
@@ -94,7 +98,8 @@ fn drain(words: &[u32], nodes: Part, ids: &mut [u32], marks: &mut [u32], top: us
 // The roots alone are marked. Returns how many wait.
 fn start(roots: &[u32], ids: &mut [u32], marks: &mut [u32]) -> usize
     requires { ⌜ length (now roots) ≤ length (now ids) ⌝ }
-    ensures { λ r. ⌜ Rooted (now (roots .entry)) (replicate (length (now (marks .entry))) 0) (now (ids .exit)) r (now (marks .exit)) ⌝ }
+    ensures { λ r. ⌜ Rooted (now (roots .entry)) (replicate (length (now (marks .entry))) 0) (now (ids .exit)) r
+        (now (marks .exit)) ⌝ }
 {
     tables::wipe_words(marks);
     list_roots(roots, ids, marks)
@@ -103,7 +108,8 @@ fn start(roots: &[u32], ids: &mut [u32], marks: &mut [u32]) -> usize
 // Marks every node.
 pub(crate) fn mark(words: &[u32], graph: Graph, marks: &mut [u32])
     requires { ⌜ (length (spanIn (now words) (graph .roots) 1) ≤ rootLimit) × (length (now marks) ≤ nodeLimit) ⌝ }
-    ensures { λ _. ⌜ Marked (now (words .entry)) (graph .nodes) (spanIn (now (words .entry)) (graph .roots) 1) (length (now (marks .entry))) (now (marks .exit)) ⌝ }
+    ensures { λ _. ⌜ Marked (now (words .entry)) (graph .nodes) (spanIn (now (words .entry)) (graph .roots) 1)
+        (length (now (marks .entry))) (now (marks .exit)) ⌝ }
 {
     let mut ids = [0u32; ROOM];
     let roots = tables::words_in(words, graph.roots, 1);

@@ -21,8 +21,11 @@ fn write_back(
     worlds: &mut [u8],
 )
     requires { ⌜ (n ≤ length (now codes)) × (n * 16 ≤ length (now matrices)) ⌝ }
-    requires { ⌜ (4 * length (now steps) ≤ length (now walk)) × (4 * n ≤ length (now places)) × (4 * (n * 16) ≤ length (now worlds)) ⌝ }
-    ensures { λ _. ⌜ WrittenBack n (now (steps .entry)) (now (codes .entry)) (now (matrices .entry)) (now (walk .entry)) (now (walk .exit)) (now (places .entry)) (now (places .exit)) (now (worlds .entry)) (now (worlds .exit)) ⌝ }
+    requires { ⌜ (4 * length (now steps) ≤ length (now walk)) × (4 * n ≤ length (now places))
+        × (4 * (n * 16) ≤ length (now worlds)) ⌝ }
+    ensures { λ _. ⌜ WrittenBack n (now (steps .entry)) (now (codes .entry)) (now (matrices .entry))
+        (now (walk .entry)) (now (walk .exit)) (now (places .entry)) (now (places .exit)) (now (worlds .entry))
+        (now (worlds .exit)) ⌝ }
 {
     let m = n * 16;
     wire::write_words(steps, walk);
@@ -46,8 +49,10 @@ fn place_over(
     places: &mut [u8],
     worlds: &mut [u8],
 ) -> Answer
-    requires { ⌜ (length (now steps) ≡ used walkLimit (now walk)) × (length (now codes) ≡ used codeLimit (now places)) × (length (now matrices) ≡ used worldLimit (now worlds)) ⌝ }
-    ensures { λ r. ⌜ PlacesLent (sceneLent words floats «node_weights» «mesh_weights» h) (now (marks .entry)) (now (slots .entry)) walk places worlds r ⌝ }
+    requires { ⌜ (length (now steps) ≡ used walkLimit (now walk)) × (length (now codes) ≡ used codeLimit (now places))
+        × (length (now matrices) ≡ used worldLimit (now worlds)) ⌝ }
+    ensures { λ r. ⌜ PlacesLent (sceneLent words floats «node_weights» «mesh_weights» h) (now (marks .entry))
+        (now (slots .entry)) walk places worlds r ⌝ }
 {
     let a = worlds::posed_node_transforms(
         words,
@@ -83,7 +88,8 @@ pub fn place_rooms(
     places: &mut [u8],
     worlds: &mut [u8],
 ) -> Answer
-    ensures { λ r. ⌜ PlacesLent (sceneLent words floats «node_weights» «mesh_weights» h) (now (marks .entry)) (now (slots .entry)) walk places worlds r ⌝ }
+    ensures { λ r. ⌜ PlacesLent (sceneLent words floats «node_weights» «mesh_weights» h) (now (marks .entry))
+        (now (slots .entry)) walk places worlds r ⌝ }
 {
     let mut steps = [0u32; WALK];
     let mut codes = [0u32; NODES];

@@ -33,7 +33,9 @@ fn widened_at(
     b: Blend,
     k: usize,
 ) -> Blend
-    ensures { λ r. ⌜ r ≡ widenedBy (now (floats .entry)) w (betweensIn (now (words .entry)) (now (floats .entry)) h betweens) b (stationAt (now (words .entry)) (now (floats .entry)) h betweens k) ⌝ }
+    ensures { λ r. ⌜ r ≡ widenedBy (now (floats .entry)) w
+        (betweensIn (now (words .entry)) (now (floats .entry)) h betweens) b
+        (stationAt (now (words .entry)) (now (floats .entry)) h betweens k) ⌝ }
 {
     let s = station_at(words, floats, h, betweens, k);
     if is_kept(words, floats, h, betweens, s.weight) {
@@ -51,7 +53,9 @@ fn widened_by_all(
     w: f32,
     start: Blend,
 ) -> Blend
-    ensures { λ r. ⌜ r ≡ foldl (widenedBy (now (floats .entry)) w (betweensIn (now (words .entry)) (now (floats .entry)) h betweens)) start (stationsIn (now (words .entry)) (now (floats .entry)) h betweens) ⌝ }
+    ensures { λ r. ⌜ r ≡ foldl (widenedBy (now (floats .entry)) w
+        (betweensIn (now (words .entry)) (now (floats .entry)) h betweens)) start
+        (stationsIn (now (words .entry)) (now (floats .entry)) h betweens) ⌝ }
 {
     let count = betweens.count;
     let mut b = start;
@@ -65,7 +69,8 @@ fn widened_by_all(
 
 // The blend of a target at weight w.
 fn blend_of(words: &[u32], floats: &[f32], h: Header, row: TargetRow, w: f32) -> Blend
-    ensures { λ r. ⌜ Blends (now (floats .entry)) (stations (targetOf (lentIn (now (words .entry)) (now (floats .entry)) h) row)) w r ⌝ }
+    ensures { λ r. ⌜ Blends (now (floats .entry)) (stations
+        (targetOf (lentIn (now (words .entry)) (now (floats .entry)) h) row)) w r ⌝ }
 {
     let positions = row.positions;
     let normals = row.normals;
@@ -103,7 +108,8 @@ fn count_of(floats: &[f32], own: Slot, n: usize) -> usize
 
 // Adds to one attribute what lies between two slots.
 fn add_blended(floats: &[f32], own: Slot, n: usize, t: f32, low: Slot, high: Slot, out: &mut [f32])
-    ensures { λ _. ⌜ now (out .exit) ≡ overRows 3 (withDeltas _⊞_ (rowsIn 3 (now (out .entry))) (blendedIn (now (floats .entry)) own n t low high)) (now (out .entry)) ⌝ }
+    ensures { λ _. ⌜ now (out .exit) ≡ overRows 3 (withDeltas _⊞_ (rowsIn 3 (now (out .entry)))
+        (blendedIn (now (floats .entry)) own n t low high)) (now (out .entry)) ⌝ }
 {
     let count = count_of(floats, own, n);
     add_between(
@@ -125,7 +131,8 @@ pub(crate) fn add_stations(
     positions: &mut [f32],
     normals: &mut [f32],
 )
-    ensures { λ _. ⌜ StationsAdded (targetOf (lentIn (now (words .entry)) (now (floats .entry)) h) row) w positions normals ⌝ }
+    ensures { λ _. ⌜ StationsAdded (targetOf (lentIn (now (words .entry)) (now (floats .entry)) h) row) w positions
+        normals ⌝ }
 {
     let b = blend_of(words, floats, h, row, w);
     let low = b.segment.low;

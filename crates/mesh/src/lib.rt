@@ -36,7 +36,9 @@ pub fn morphed(
     normals: &mut [f32],
     tangents: &mut [f32],
 )
-    ensures { λ _. ⌜ InPlace (λ v. shapeOf (withTargets (targetsIn (now (words .entry)) (now (floats .entry)) h targets) (now (weights .entry)) v)) positions normals tangents ⌝ }
+    ensures { λ _. ⌜ InPlace (λ v. shapeOf (withTargets
+        (targetsIn (now (words .entry)) (now (floats .entry)) h targets) (now (weights .entry)) v)) positions normals
+        tangents ⌝ }
 {
     let n = wire::least(targets.count, weights.len());
     let mut k = 0;

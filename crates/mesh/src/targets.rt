@@ -20,7 +20,9 @@ ghost use Rattle.mesh.specs.Added.{Added};
 
 // Adds w times the deltas of a target to positions and normals.
 fn add_plain(floats: &[f32], row: TargetRow, w: f32, positions: &mut [f32], normals: &mut [f32])
-    ensures { λ _. ⌜ Added (λ v d. v ⊞ w ⊙ d) (rowsIn 3 (deltasIn (now (floats .entry)) (row .positions))) (rowsIn 3 (deltasIn (now (floats .entry)) (row .normals))) (now (positions .entry)) (now (positions .exit)) (now (normals .entry)) (now (normals .exit)) ⌝ }
+    ensures { λ _. ⌜ Added (λ v d. v ⊞ w ⊙ d) (rowsIn 3 (deltasIn (now (floats .entry)) (row .positions)))
+        (rowsIn 3 (deltasIn (now (floats .entry)) (row .normals))) (now (positions .entry)) (now (positions .exit))
+        (now (normals .entry)) (now (normals .exit)) ⌝ }
 {
     add_scaled(positions, w, deltas_in(floats, row.positions));
     add_scaled(normals, w, deltas_in(floats, row.normals));
@@ -38,7 +40,8 @@ fn add_target(
     normals: &mut [f32],
     tangents: &mut [f32],
 )
-    ensures { λ _. ⌜ InPlace (λ v. shapeOf (withTarget v (targetOf (lentIn (now (words .entry)) (now (floats .entry)) h) row) w)) positions normals tangents ⌝ }
+    ensures { λ _. ⌜ InPlace (λ v. shapeOf (withTarget v
+        (targetOf (lentIn (now (words .entry)) (now (floats .entry)) h) row) w)) positions normals tangents ⌝ }
 {
     if w == 0.0 {
         return;
@@ -63,7 +66,9 @@ pub(crate) fn add_numbered(
     normals: &mut [f32],
     tangents: &mut [f32],
 )
-    ensures { λ _. ⌜ InPlace (λ v. shapeOf (withTarget v (targetOf (lentIn (now (words .entry)) (now (floats .entry)) h) (targetRow (now (words .entry)) (h .meshes .targets) (targets .at + k))) w)) positions normals tangents ⌝ }
+    ensures { λ _. ⌜ InPlace (λ v. shapeOf (withTarget v
+        (targetOf (lentIn (now (words .entry)) (now (floats .entry)) h)
+        (targetRow (now (words .entry)) (h .meshes .targets) (targets .at + k))) w)) positions normals tangents ⌝ }
 {
     let row = target_at(words, h, targets, k);
     add_target(words, floats, h, row, w, positions, normals, tangents);

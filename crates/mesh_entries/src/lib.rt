@@ -19,7 +19,10 @@ pub extern "C" fn morphed_floats(
     normals: &mut [f32],
     tangents: &mut [f32],
 )
-    ensures { λ _. ⌜ InPlace (λ v. shapeOf (withTargets (targetsIn (now (words .entry)) (now (floats .entry)) header (record { at = «targets_at»; count = «targets_count» })) (now (weights .entry)) v)) positions normals tangents ⌝ }
+    ensures { λ _. ⌜ InPlace (λ v. shapeOf (withTargets
+        (targetsIn (now (words .entry)) (now (floats .entry)) header
+        (record { at = «targets_at»; count = «targets_count» })) (now (weights .entry)) v)) positions normals
+        tangents ⌝ }
 {
     let targets = Part {
         at: targets_at,

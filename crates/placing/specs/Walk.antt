@@ -9,6 +9,7 @@ use denote.Ref.{RefT, now}
 use denote.Triple.Both.{Both}
 use Rattle.model.specs.Lists.{tabulate}
 use Rattle.model.specs.Scene.{Scene, Node, nodeCount}
+use Rattle.model.specs.Matrix.{identity}
 use Rattle.model.specs.Transform.{matrix}
 use Rattle.model.specs.Placing as placing
 use Rattle.tables.specs.declared.Graph.{Graph}
@@ -18,9 +19,9 @@ use Rattle.tables.specs.Codes.{codesOf}
 abbrev pub rootsIn : List ℕ → Graph → List ℕ
 rootsIn words graph = spanIn words (graph .roots) 1
 
--- a node of which only the child list is told
+-- a node of which only the child list is told: the placing looks at nothing else
 abbrev pub childList : List ℕ → Node
-childList children = record { base = matrix []; children = children; mesh = none; skin = none; weights = none }
+childList children = record { base = matrix identity; children = children; mesh = none; skin = none; weights = none }
 
 -- the scene that the nodes and the roots say, as far as the placing looks at it
 unfoldable pub listingIn : List ℕ → Graph → Scene

@@ -65,7 +65,9 @@ pub fn pose_all(
     marks: &mut [u32],
     slots: &mut [f32],
 )
-    requires { ⌜ NoneDrawn (now words) (now floats) channels × (isNan time ≡ false) × AllInLine (now words) (now floats) channels n × (n ≤ room (now marks) (now slots)) × (channels .count ≤ channelLimit) ⌝ }
+    requires { ⌜ NoneDrawn (now words) (now floats) channels × (isNan time ≡ false)
+        × AllInLine (now words) (now floats) channels n × (n ≤ room (now marks) (now slots))
+        × (channels .count ≤ channelLimit) ⌝ }
     ensures { λ _. ⌜ Encoded (channelsIn (now (words .entry)) (now (floats .entry)) channels) time n marks slots ⌝ }
 {
     clear(marks, slots, n);
@@ -85,7 +87,8 @@ pub fn sample_pose(
     marks: &mut [u32],
     slots: &mut [f32],
 ) -> u32
-    ensures { λ r. ⌜ Posed (sceneLent words floats «node_weights» «mesh_weights» h) time (now (marks .entry)) (now (slots .entry)) (now (marks .exit)) (now (slots .exit)) r ⌝ }
+    ensures { λ r. ⌜ Posed (sceneLent words floats «node_weights» «mesh_weights» h) time (now (marks .entry))
+        (now (slots .entry)) (now (marks .exit)) (now (slots .exit)) r ⌝ }
 {
     let space = slots_in(marks.len(), slots.len());
     let number = pose_number(words, floats, node_weights, mesh_weights, h, time, space);

@@ -46,7 +46,8 @@ fn some_out_of_line(words: &[u32], floats: &[f32], channels: Part, n: usize) -> 
 // Whether an even track that is aimed at a node has keys that are not in line: a stage, for tables that draw no number.
 pub fn keys_out_of_line(words: &[u32], floats: &[f32], h: Header) -> bool
     requires { ⌜ NoneDrawn (now words) (now floats) (h .channels) ⌝ }
-    ensures { λ r. ⌜ ((own mesh : List Float) → r ≡ someKeysOutOfLine (sceneOf (lentAs (now (words .entry)) (now (floats .entry)) own mesh h))) ⌝ }
+    ensures { λ r. ⌜ ((own mesh : List Float) → r ≡ someKeysOutOfLine
+        (sceneOf (lentAs (now (words .entry)) (now (floats .entry)) own mesh h))) ⌝ }
 {
     let graph = h.graph;
     some_out_of_line(words, floats, h.channels, graph.nodes.count)

@@ -51,8 +51,12 @@ fn slot_after(
     marks: &[u32],
     slots: &[f32],
 ) -> Slot
-    requires { ⌜ (tableNumber (now floats) (trackFor row) ≡ 0) × (isNan time ≡ false) × ((even (channelIn (now floats) row) && not (inLine (channelIn (now floats) row .keys))) ≡ false) × (row .target < room (now marks) (now slots)) × (k < channelLimit) ⌝ }
-    ensures { λ r. ⌜ (poseOf (r .pose) ≡ bare (driven time (channelIn (now (floats .entry)) row) (now (marks .entry)) (now (slots .entry)))) × (r .word ≡ drivenWord time (channelIn (now (floats .entry)) row) k (now (marks .entry))) ⌝ }
+    requires { ⌜ (tableNumber (now floats) (trackFor row) ≡ 0) × (isNan time ≡ false)
+        × ((even (channelIn (now floats) row) && not (inLine (channelIn (now floats) row .keys))) ≡ false)
+        × (row .target < room (now marks) (now slots)) × (k < channelLimit) ⌝ }
+    ensures { λ r. ⌜ (poseOf (r .pose) ≡ bare (driven time (channelIn (now (floats .entry)) row) (now (marks .entry))
+        (now (slots .entry)))) × (r .word ≡ drivenWord time (channelIn (now (floats .entry)) row) k
+        (now (marks .entry))) ⌝ }
 {
     let g = gift_at(floats, row, time);
     let i = row.target as usize;
@@ -73,8 +77,11 @@ fn drive(
     marks: &mut [u32],
     slots: &mut [f32],
 )
-    requires { ⌜ (tableNumber (now floats) (trackFor row) ≡ 0) × (isNan time ≡ false) × (outOfLine n (channelIn (now floats) row) ≡ false) × (n ≤ room (now marks) (now slots)) × (k < channelLimit) ⌝ }
-    ensures { λ _. ⌜ Driven time n k (channelIn (now (floats .entry)) row) (now (marks .entry)) (now (slots .entry)) (now (marks .exit)) (now (slots .exit)) ⌝ }
+    requires { ⌜ (tableNumber (now floats) (trackFor row) ≡ 0) × (isNan time ≡ false)
+        × (outOfLine n (channelIn (now floats) row) ≡ false) × (n ≤ room (now marks) (now slots))
+        × (k < channelLimit) ⌝ }
+    ensures { λ _. ⌜ Driven time n k (channelIn (now (floats .entry)) row) (now (marks .entry)) (now (slots .entry))
+        (now (marks .exit)) (now (slots .exit)) ⌝ }
 {
     let i = row.target as usize;
     if i < n {
@@ -93,7 +100,10 @@ pub(crate) fn drive_all(
     marks: &mut [u32],
     slots: &mut [f32],
 )
-    requires { ⌜ NoneDrawn (now words) (now floats) channels × (isNan time ≡ false) × AllInLine (now words) (now floats) channels n × (n ≤ room (now marks) (now slots)) × (channels .count ≤ channelLimit) × (now marks ≡ clearedWords n (now marks)) × (now slots ≡ clearedFloats n (now slots)) ⌝ }
+    requires { ⌜ NoneDrawn (now words) (now floats) channels × (isNan time ≡ false)
+        × AllInLine (now words) (now floats) channels n × (n ≤ room (now marks) (now slots))
+        × (channels .count ≤ channelLimit) × (now marks ≡ clearedWords n (now marks))
+        × (now slots ≡ clearedFloats n (now slots)) ⌝ }
     ensures { λ _. ⌜ Encoded (channelsIn (now (words .entry)) (now (floats .entry)) channels) time n marks slots ⌝ }
 {
     let count = channels.count;
@@ -115,7 +125,8 @@ pub(crate) fn drive_all(
 // Slots for n nodes in which nothing is posed.
 pub(crate) fn clear(marks: &mut [u32], slots: &mut [f32], n: usize)
     requires { ⌜ n ≤ room (now marks) (now slots) ⌝ }
-    ensures { λ _. ⌜ (now (marks .exit) ≡ clearedWords n (now (marks .entry))) × (now (slots .exit) ≡ clearedFloats n (now (slots .entry))) ⌝ }
+    ensures { λ _. ⌜ (now (marks .exit) ≡ clearedWords n (now (marks .entry)))
+        × (now (slots .exit) ≡ clearedFloats n (now (slots .entry))) ⌝ }
 {
     let mut i: usize = 0;
     while i < n {

@@ -78,8 +78,10 @@ fn of_scalars(property: Property) -> Gift
 
 // What a channel gives at a time. Its keys are in line where it is even.
 pub fn gift_at(floats: &[f32], row: ChannelRow, time: f32) -> Gift
-    requires { ⌜ (tableNumber (now floats) (trackFor row) ≡ 0) × (isNan time ≡ false) × ((even (channelIn (now floats) row) && not (inLine (channelIn (now floats) row .keys))) ≡ false) ⌝ }
-    ensures { λ r. ⌜ Gives r (channelIn (now (floats .entry)) row .property) (channelIn (now (floats .entry)) row .kind) (sample (channelIn (now (floats .entry)) row) time) ⌝ }
+    requires { ⌜ (tableNumber (now floats) (trackFor row) ≡ 0) × (isNan time ≡ false)
+        × ((even (channelIn (now floats) row) && not (inLine (channelIn (now floats) row .keys))) ≡ false) ⌝ }
+    ensures { λ r. ⌜ Gives r (channelIn (now (floats .entry)) row .property)
+        (channelIn (now (floats .entry)) row .kind) (sample (channelIn (now (floats .entry)) row) time) ⌝ }
 {
     let mut weights = [0.0f32; WEIGHT_LIMIT];
     match animation::sample(floats, tables::track_of(row), time, &mut weights) {

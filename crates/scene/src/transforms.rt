@@ -227,7 +227,8 @@ struct Axis {
 
 fn axis_of(m: Mat4, j: usize) -> Axis
     requires { ⌜ j < 4 ⌝ }
-    ensures { λ r. ⌜ (r .length ≡ norm (take 3 (column (m .m) j))) × (vec3 (r .direction) ≡ direction (take 3 (column (m .m) j))) ⌝ }
+    ensures { λ r. ⌜ (r .length ≡ norm (take 3 (column (m .m) j)))
+        × (vec3 (r .direction) ≡ direction (take 3 (column (m .m) j))) ⌝ }
 {
     let c = column(m, j);
     let length = vec3_len(c);

@@ -80,7 +80,8 @@ fn compare_outputs(
     at: usize,
     most: f64,
 ) -> Agreement
-    ensures { λ r. ⌜ r ≡ outputsCompared (now (positions .entry)) (now (normals .entry)) (now (tangents .entry)) (now (fields .entry)) at most ⌝ }
+    ensures { λ r. ⌜ r ≡ outputsCompared (now (positions .entry)) (now (normals .entry)) (now (tangents .entry))
+        (now (fields .entry)) at most ⌝ }
 {
     let second = behind_list(fields, at, 96);
     let third = behind_list(fields, second, 96);

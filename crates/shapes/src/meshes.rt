@@ -33,8 +33,12 @@ fn put_primitive(
     normals: &mut [f32],
     tangents: &mut [f32],
 )
-    requires { ⌜ (n ≡ rowLengths row) × RowFits (now floats) row × AtMost (plusLengths at n) (length (now positions)) (length (now normals)) (length (now tangents)) × AtMost (plusLengths at n) 8589934592 8589934592 8589934592 ⌝ }
-    ensures { λ _. ⌜ PutsAt (bakedPrimitive (world .m) (paletteIn «has_palette» (now (palette .entry))) (now (weights .entry)) (primitiveOf (lentAs (now (words .entry)) (now (floats .entry)) [] [] h) row)) at n positions normals tangents ⌝ }
+    requires { ⌜ (n ≡ rowLengths row) × RowFits (now floats) row
+        × AtMost (plusLengths at n) (length (now positions)) (length (now normals)) (length (now tangents))
+        × AtMost (plusLengths at n) 8589934592 8589934592 8589934592 ⌝ }
+    ensures { λ _. ⌜ PutsAt (bakedPrimitive (world .m) (paletteIn «has_palette» (now (palette .entry)))
+        (now (weights .entry)) (primitiveOf (lentAs (now (words .entry)) (now (floats .entry)) [] [] h) row)) at n
+        positions normals tangents ⌝ }
 {
     let a = at.positions;
     let b = at.normals;
@@ -72,8 +76,12 @@ pub fn write_mesh(
     normals: &mut [f32],
     tangents: &mut [f32],
 )
-    requires { ⌜ Drawable (now words) (now floats) (h .meshes .primitives) part × AtMost (lengthsBelow (now words) (h .meshes .primitives) part (part .count)) (length (now positions)) (length (now normals)) (length (now tangents)) ⌝ }
-    ensures { λ _. ⌜ PutsOut (outputOf (map (bakedPrimitive (world .m) (paletteIn «has_palette» (now (palette .entry))) (now (weights .entry))) (primitivesIn (lentAs (now (words .entry)) (now (floats .entry)) [] [] h) part))) positions normals tangents ⌝ }
+    requires { ⌜ Drawable (now words) (now floats) (h .meshes .primitives) part
+        × AtMost (lengthsBelow (now words) (h .meshes .primitives) part (part .count)) (length (now positions))
+        (length (now normals)) (length (now tangents)) ⌝ }
+    ensures { λ _. ⌜ PutsOut (outputOf (map (bakedPrimitive (world .m)
+        (paletteIn «has_palette» (now (palette .entry))) (now (weights .entry)))
+        (primitivesIn (lentAs (now (words .entry)) (now (floats .entry)) [] [] h) part))) positions normals tangents ⌝ }
 {
     let mut at = none();
     let mut k = 0usize;

@@ -31,7 +31,8 @@ pub(crate) fn copy_rest(
     tangents: &mut [f32],
 )
     requires { ⌜ Sized (now floats) row (now positions) (now normals) (now tangents) ⌝ }
-    ensures { λ _. ⌜ AtRest (now (floats .entry)) row (now (positions .exit)) (now (normals .exit)) (now (tangents .exit)) ⌝ }
+    ensures { λ _. ⌜ AtRest (now (floats .entry)) row (now (positions .exit)) (now (normals .exit))
+        (now (tangents .exit)) ⌝ }
 {
     copy(tables::floats_in(floats, row.positions, 3), positions);
     copy(slot_floats(floats, row.normals, 3), normals);

@@ -26,7 +26,9 @@ fn place_shape(
     normals: &mut [f32],
     tangents: &mut [f32],
 )
-    ensures { λ _. ⌜ InPlace (placedShape (world .m) (paletteIn «has_palette» (now (palette .entry))) (slotIn (now (words .entry)) (row .joints) 4) (slotIn (now (floats .entry)) (row .weights) 4)) positions normals tangents ⌝ }
+    ensures { λ _. ⌜ InPlace (placedShape (world .m) (paletteIn «has_palette» (now (palette .entry)))
+        (slotIn (now (words .entry)) (row .joints) 4) (slotIn (now (floats .entry)) (row .weights) 4)) positions
+        normals tangents ⌝ }
 {
     let joints = row.joints;
     let weights = row.weights;
@@ -56,7 +58,9 @@ fn blend_primitive(
     tangents: &mut [f32],
 )
     requires { ⌜ Sized (now floats) row (now positions) (now normals) (now tangents) ⌝ }
-    ensures { λ _. ⌜ ShapedAs (shapeOf (withTargets (targetsIn (now (words .entry)) (now (floats .entry)) h (row .targets)) (now (weights .entry)) (attributesAt (now (floats .entry)) row))) (now (floats .entry)) row positions normals tangents ⌝ }
+    ensures { λ _. ⌜ ShapedAs (shapeOf (withTargets
+        (targetsIn (now (words .entry)) (now (floats .entry)) h (row .targets)) (now (weights .entry))
+        (attributesAt (now (floats .entry)) row))) (now (floats .entry)) row positions normals tangents ⌝ }
 {
     copy_rest(floats, row, positions, normals, tangents);
     mesh::morphed(
@@ -86,7 +90,9 @@ pub(crate) fn bake_primitive(
     tangents: &mut [f32],
 )
     requires { ⌜ Sized (now floats) row (now positions) (now normals) (now tangents) ⌝ }
-    ensures { λ _. ⌜ ShapedAs (bakedPrimitive (world .m) (paletteIn «has_palette» (now (palette .entry))) (now (weights .entry)) (primitiveOf (lentAs (now (words .entry)) (now (floats .entry)) [] [] h) row)) (now (floats .entry)) row positions normals tangents ⌝ }
+    ensures { λ _. ⌜ ShapedAs (bakedPrimitive (world .m) (paletteIn «has_palette» (now (palette .entry)))
+        (now (weights .entry)) (primitiveOf (lentAs (now (words .entry)) (now (floats .entry)) [] [] h) row))
+        (now (floats .entry)) row positions normals tangents ⌝ }
 {
     blend_primitive(words, floats, h, row, weights, positions, normals, tangents);
     place_shape(

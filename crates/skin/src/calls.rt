@@ -46,7 +46,8 @@ fn judge(
     slots: usize,
     room: usize,
 ) -> Answer
-    ensures { λ r. ⌜ Judged (sceneLent words floats «node_weights» «mesh_weights» h) node (now (places .entry)) slots room r ⌝ }
+    ensures { λ r. ⌜ Judged (sceneLent words floats «node_weights» «mesh_weights» h) node
+        (now (places .entry)) slots room r ⌝ }
 {
     let drawn = checks::tables_number(words, floats, node_weights, mesh_weights, h);
     if drawn != 0 {
@@ -84,7 +85,8 @@ pub fn joint_matrices_with(
     worlds: &[f32],
     out: &mut [f32],
 ) -> Answer
-    ensures { λ r. ⌜ Answered (sceneLent words floats «node_weights» «mesh_weights» h) node (now (places .entry)) (now (worlds .entry)) (now (out .entry)) (now (out .exit)) r ⌝ }
+    ensures { λ r. ⌜ Answered (sceneLent words floats «node_weights» «mesh_weights» h) node (now (places .entry))
+        (now (worlds .entry)) (now (out .entry)) (now (out .exit)) r ⌝ }
 {
     let answer = judge(
         words,

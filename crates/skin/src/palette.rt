@@ -45,7 +45,8 @@ fn all_placed(joints: &[u32], n: usize, places: &[u32]) -> bool
 
 // Whether joints and their inverse binds make a palette: some binds, but too few, do not.
 fn is_whole(joints: &[u32], binds: &[f32], n: usize, places: &[u32]) -> bool
-    ensures { λ r. ⌜ ((slots : List Float) → r ≡ isSome (paletteOf (worldIn n (now (places .entry)) slots) (skeletonIn (now (joints .entry)) (now (binds .entry))))) ⌝ }
+    ensures { λ r. ⌜ ((slots : List Float) → r ≡ isSome
+        (paletteOf (worldIn n (now (places .entry)) slots) (skeletonIn (now (joints .entry)) (now (binds .entry))))) ⌝ }
 {
     let given = binds.len() / 16;
     if given != 0 {
@@ -91,7 +92,9 @@ fn joint_matrix(joint: u32, worlds: &[f32], binds: &[f32], at: usize) -> Mat4
 // Writes the matrix of each joint to the start of `out`.
 fn write_joints(joints: &[u32], binds: &[f32], worlds: &[f32], out: &mut [f32])
     requires { ⌜ length (now joints) * 16 ≤ length (now out) ⌝ }
-    ensures { λ _. ⌜ now (out .exit) ≡ joined (λ m. m) (paletteIn (now (joints .entry)) (now (binds .entry)) (now (worlds .entry))) ++ drop (length (now (joints .entry)) * 16) (now (out .entry)) ⌝ }
+    ensures { λ _. ⌜ now (out .exit) ≡ joined (λ m. m)
+        (paletteIn (now (joints .entry)) (now (binds .entry)) (now (worlds .entry)))
+        ++ drop (length (now (joints .entry)) * 16) (now (out .entry)) ⌝ }
 {
     let mut t = 0;
     while t < joints.len() {
@@ -104,7 +107,9 @@ fn write_joints(joints: &[u32], binds: &[f32], worlds: &[f32], out: &mut [f32])
 
 // Writes the palette of joints and inverse binds, if there is one and `out` has room for it.
 fn lay_out(joints: &[u32], binds: &[f32], n: usize, places: &[u32], worlds: &[f32], out: &mut [f32])
-    ensures { λ _. ⌜ now (out .exit) ≡ laidOut (orElse (paletteOf (worldIn n (now (places .entry)) (now (worlds .entry))) (skeletonIn (now (joints .entry)) (now (binds .entry)))) []) (now (out .entry)) ⌝ }
+    ensures { λ _. ⌜ now (out .exit) ≡ laidOut (orElse
+        (paletteOf (worldIn n (now (places .entry)) (now (worlds .entry)))
+        (skeletonIn (now (joints .entry)) (now (binds .entry)))) []) (now (out .entry)) ⌝ }
 {
     if !is_whole(joints, binds, n, places) {
         return;
@@ -125,7 +130,8 @@ pub fn write_palette(
     worlds: &[f32],
     out: &mut [f32],
 )
-    ensures { λ _. ⌜ Laid (now (words .entry)) (now (floats .entry)) h skin (now (places .entry)) (now (worlds .entry)) (now (out .entry)) (now (out .exit)) ⌝ }
+    ensures { λ _. ⌜ Laid (now (words .entry)) (now (floats .entry)) h skin (now (places .entry))
+        (now (worlds .entry)) (now (out .entry)) (now (out .exit)) ⌝ }
 {
     let Bound::Skeleton(row) = skeleton_of(words, h, skin) else {
         return;

@@ -53,7 +53,8 @@ pub fn weights_number(
     h: Header,
     node: u32,
 ) -> u32
-    ensures { λ r. ⌜ r ≡ weightsNumber (tablesNumber (sceneLent words floats «node_weights» «mesh_weights» h)) (sceneOf (sceneLent words floats «node_weights» «mesh_weights» h)) node ⌝ }
+    ensures { λ r. ⌜ r ≡ weightsNumber (tablesNumber (sceneLent words floats «node_weights» «mesh_weights» h))
+        (sceneOf (sceneLent words floats «node_weights» «mesh_weights» h)) node ⌝ }
 {
     let drawn = checks::tables_number(words, floats, node_weights, mesh_weights, h);
     if drawn != 0 {
@@ -74,7 +75,8 @@ pub fn effective_morph_weights<'a>(
     h: Header,
     node: u32,
 ) -> &'a [f32]
-    ensures { λ r. ⌜ now r ≡ weightsOf (tablesNumber (sceneLent words floats «node_weights» «mesh_weights» h)) (sceneOf (sceneLent words floats «node_weights» «mesh_weights» h)) node ⌝ }
+    ensures { λ r. ⌜ now r ≡ weightsOf (tablesNumber (sceneLent words floats «node_weights» «mesh_weights» h))
+        (sceneOf (sceneLent words floats «node_weights» «mesh_weights» h)) node ⌝ }
 {
     if weights_number(words, floats, node_weights, mesh_weights, h, node) != 0 {
         return &node_weights[0..0];

@@ -44,7 +44,8 @@ fn count_one(counts: &mut [usize], a: usize, t: usize)
 // Counts the nodes of the line of joint t.
 fn count_line(codes: &[u32], joint: u32, t: usize, counts: &mut [usize])
     requires { ⌜ (length (now codes) ≤ nodeLimit) × (joint < nodeLimit) × (t < 18446744073709551615) ⌝ }
-    ensures { λ _. ⌜ now (counts .exit) ≡ foldl (countOne t) (now (counts .entry)) (lineIn (now (codes .entry)) joint) ⌝ }
+    ensures { λ _. ⌜ now (counts .exit) ≡ foldl (countOne t) (now (counts .entry))
+        (lineIn (now (codes .entry)) joint) ⌝ }
 {
     let mut left = codes.len() + 1;
     let mut code = joint + 3;
@@ -60,7 +61,8 @@ fn count_line(codes: &[u32], joint: u32, t: usize, counts: &mut [usize])
 // lines.
 pub(crate) fn count_lines(codes: &[u32], joints: &[u32], counts: &mut [usize])
     requires { ⌜ (length (now codes) ≤ nodeLimit) × Leading (now codes) (now joints) 0 (now counts) ⌝ }
-    ensures { λ _. ⌜ Leading (now (codes .entry)) (now (joints .entry)) (length (now (joints .entry))) (now (counts .exit)) ⌝ }
+    ensures { λ _. ⌜ Leading (now (codes .entry)) (now (joints .entry)) (length (now (joints .entry)))
+        (now (counts .exit)) ⌝ }
 {
     let mut t = 0;
     while t < joints.len() {
@@ -82,7 +84,8 @@ fn stands_at(counts: &[usize], a: usize, m: usize) -> bool
 // The first node of a line that is counted m times.
 pub(crate) fn first_counted(codes: &[u32], joint: u32, counts: &[usize], m: usize) -> Named
     requires { ⌜ (length (now codes) ≤ nodeLimit) × (joint < nodeLimit) ⌝ }
-    ensures { λ r. ⌜ namedOf r ≡ firstThat (λ a. eqb (getD (now (counts .entry)) a 0) m) (lineIn (now (codes .entry)) joint) ⌝ }
+    ensures { λ r. ⌜ namedOf r ≡ firstThat (λ a. eqb (getD (now (counts .entry)) a 0) m)
+        (lineIn (now (codes .entry)) joint) ⌝ }
 {
     let mut left = codes.len() + 1;
     let mut code = joint + 3;

@@ -60,7 +60,8 @@ fn in_range(id: u32, n: usize) -> Named
 
 // The root of a skin, with the codes of all nodes' marks. A root that is named stands without a look at the joints.
 fn root_of(words: &[u32], h: Header, skin: u32, codes: &[u32]) -> Named
-    requires { ⌜ (length (now codes) ≤ nodeLimit) × Inside (now codes) × (length (now codes) ≡ h .graph .nodes .count) ⌝ }
+    requires { ⌜ (length (now codes) ≤ nodeLimit) × Inside (now codes)
+        × (length (now codes) ≡ h .graph .nodes .count) ⌝ }
     ensures { λ r. ⌜ Rooted (now (words .entry)) h skin (now (codes .entry)) r ⌝ }
 {
     let skins = h.skins;

@@ -54,7 +54,8 @@ fn direction(l: Linear, v: Vec3) -> Vec3
 // Puts the direction of normal v at i.
 fn hold_normal(m: Mat4, whole: bool, normals: &[f32], v: usize, held: &mut [f32], i: usize)
     requires { ⌜ (i * 3 + 3 ≤ length (now held)) × (whole ≡ true → v < length (now normals) / 3) ⌝ }
-    ensures { λ _. ⌜ HeldOne whole i (directionBy (inverseTranspose (m .m)) (row 3 (now (normals .entry)) v)) (now (held .entry)) (now (held .exit)) ⌝ }
+    ensures { λ _. ⌜ HeldOne whole i (directionBy (inverseTranspose (m .m)) (row 3 (now (normals .entry)) v))
+        (now (held .entry)) (now (held .exit)) ⌝ }
 {
     if whole {
         let n = load3(normals, v * 3);
@@ -69,7 +70,8 @@ fn hold_normal(m: Mat4, whole: bool, normals: &[f32], v: usize, held: &mut [f32]
 // Puts the direction of tangent v at i.
 fn hold_tangent(m: Mat4, whole: bool, tangents: &[f32], v: usize, held: &mut [f32], i: usize)
     requires { ⌜ (i * 3 + 3 ≤ length (now held)) × (whole ≡ true → v < length (now tangents) / 4) ⌝ }
-    ensures { λ _. ⌜ HeldOne whole i (turned (linear (m .m)) (part (now (tangents .entry)) (v * 4) 3)) (now (held .entry)) (now (held .exit)) ⌝ }
+    ensures { λ _. ⌜ HeldOne whole i (turned (linear (m .m)) (part (now (tangents .entry)) (v * 4) 3))
+        (now (held .entry)) (now (held .exit)) ⌝ }
 {
     if whole {
         let t = load3(tangents, v * 4);
@@ -98,7 +100,8 @@ fn hold_directions(
     i: usize,
 )
     requires { ⌜ Room whole v i (now normals) (now tangents) (now n) (now t) ⌝ }
-    ensures { λ _. ⌜ Held whole (some (m .m)) v i (now (normals .entry)) (now (tangents .entry)) (now (tangents .exit)) (now (n .entry)) (now (n .exit)) (now (t .entry)) (now (t .exit)) ⌝ }
+    ensures { λ _. ⌜ Held whole (some (m .m)) v i (now (normals .entry)) (now (tangents .entry))
+        (now (tangents .exit)) (now (n .entry)) (now (n .exit)) (now (t .entry)) (now (t .exit)) ⌝ }
 {
     let mirror = scene::linear_det(m) < 0.0;
     hold_normal(m, whole.normals, normals, v, n, i);
@@ -109,7 +112,8 @@ fn hold_directions(
 // Puts zeros at i.
 fn hold_zeros(n: &mut [f32], t: &mut [f32], i: usize)
     requires { ⌜ (i * 3 + 3 ≤ length (now n)) × (i * 3 + 3 ≤ length (now t)) ⌝ }
-    ensures { λ _. ⌜ (now (n .exit) ≡ paste (now (n .entry)) (i * 3) zeros 3) × (now (t .exit) ≡ paste (now (t .entry)) (i * 3) zeros 3) ⌝ }
+    ensures { λ _. ⌜ (now (n .exit) ≡ paste (now (n .entry)) (i * 3) zeros 3)
+        × (now (t .exit) ≡ paste (now (t .entry)) (i * 3) zeros 3) ⌝ }
 {
     let z = Vec3 {
         x: 0.0,
@@ -133,7 +137,9 @@ fn hold_vertex(
     i: usize,
 )
     requires { ⌜ Room whole v i (now normals) (now tangents) (now n) (now t) ⌝ }
-    ensures { λ _. ⌜ HeldVertex whole (blended b) v i (now (positions .entry)) (now (positions .exit)) (now (normals .entry)) (now (tangents .entry)) (now (tangents .exit)) (now (n .entry)) (now (n .exit)) (now (t .entry)) (now (t .exit)) ⌝ }
+    ensures { λ _. ⌜ HeldVertex whole (blended b) v i (now (positions .entry)) (now (positions .exit))
+        (now (normals .entry)) (now (tangents .entry)) (now (tangents .exit)) (now (n .entry)) (now (n .exit))
+        (now (t .entry)) (now (t .exit)) ⌝ }
 {
     if b.any {
         let m = b.matrix;
@@ -155,8 +161,11 @@ fn hold_block(
     tangents: &mut [f32],
     k: usize,
 ) -> Waiting
-    requires { ⌜ (k + 16 ≤ length (now positions) / 3) × (whole .normals ≡ true → k + 16 ≤ length (now normals) / 3) × (whole .tangents ≡ true → k + 16 ≤ length (now tangents) / 4) ⌝ }
-    ensures { λ r. ⌜ HeldRows (rowsIn 16 (now (palette .entry))) (rowsIn 4 (now (joints .entry))) (rowsIn 4 (now (weights .entry))) whole k 16 (now (positions .entry)) (now (positions .exit)) (now (normals .entry)) (now (tangents .entry)) (now (tangents .exit)) (r .normals) (r .tangents) ⌝ }
+    requires { ⌜ (k + 16 ≤ length (now positions) / 3) × (whole .normals ≡ true → k + 16 ≤ length (now normals) / 3)
+        × (whole .tangents ≡ true → k + 16 ≤ length (now tangents) / 4) ⌝ }
+    ensures { λ r. ⌜ HeldRows (rowsIn 16 (now (palette .entry))) (rowsIn 4 (now (joints .entry)))
+        (rowsIn 4 (now (weights .entry))) whole k 16 (now (positions .entry)) (now (positions .exit))
+        (now (normals .entry)) (now (tangents .entry)) (now (tangents .exit)) (r .normals) (r .tangents) ⌝ }
 {
     let mut n = [0.0f32; 48];
     let mut t = [0.0f32; 48];
@@ -185,7 +194,8 @@ fn hold_block(
 // Puts the directions that were held back in rows k to k + 15, divided by their lengths.
 fn put_held(whole: bool, d: &mut [f32; 48], w: usize, s: &mut [f32], k: usize)
     requires { ⌜ (3 ≤ w) × (whole ≡ true → (k + 16) * w ≤ length (now s)) ⌝ }
-    ensures { λ _. ⌜ now (s .exit) ≡ pick whole (rowsFrom w (λ i. unitOver (row 3 (now (d .entry)) i)) k (now (s .entry)) 16) (now (s .entry)) ⌝ }
+    ensures { λ _. ⌜ now (s .exit) ≡ pick whole (rowsFrom w (λ i. unitOver (row 3 (now (d .entry)) i)) k
+        (now (s .entry)) 16) (now (s .entry)) ⌝ }
 {
     if whole {
         put_units(d, w, s, k);
@@ -202,8 +212,12 @@ pub(crate) fn skin_block(
     tangents: &mut [f32],
     k: usize,
 )
-    requires { ⌜ (k + 16 ≤ length (now positions) / 3) × (length (now normals) / 3 < k + 16 → length (now normals) / 3 ≤ k) × (length (now tangents) / 4 < k + 16 → length (now tangents) / 4 ≤ k) ⌝ }
-    ensures { λ _. ⌜ MovedFrom (rowsIn 16 (now (palette .entry))) (rowsIn 4 (now (joints .entry))) (rowsIn 4 (now (weights .entry))) k 16 (now (positions .entry)) (now (positions .exit)) (now (normals .entry)) (now (normals .exit)) (now (tangents .entry)) (now (tangents .exit)) ⌝ }
+    requires { ⌜ (k + 16 ≤ length (now positions) / 3)
+        × (length (now normals) / 3 < k + 16 → length (now normals) / 3 ≤ k)
+        × (length (now tangents) / 4 < k + 16 → length (now tangents) / 4 ≤ k) ⌝ }
+    ensures { λ _. ⌜ MovedFrom (rowsIn 16 (now (palette .entry))) (rowsIn 4 (now (joints .entry)))
+        (rowsIn 4 (now (weights .entry))) k 16 (now (positions .entry)) (now (positions .exit)) (now (normals .entry))
+        (now (normals .exit)) (now (tangents .entry)) (now (tangents .exit)) ⌝ }
 {
     let whole = Whole {
         normals: k + 16 <= normals.len() / 3,

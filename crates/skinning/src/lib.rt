@@ -27,7 +27,9 @@ fn skin_each(
     n: usize,
 )
     requires { ⌜ k + n ≤ length (now positions) / 3 ⌝ }
-    ensures { λ _. ⌜ MovedFrom (rowsIn 16 (now (palette .entry))) (rowsIn 4 (now (joints .entry))) (rowsIn 4 (now (weights .entry))) k n (now (positions .entry)) (now (positions .exit)) (now (normals .entry)) (now (normals .exit)) (now (tangents .entry)) (now (tangents .exit)) ⌝ }
+    ensures { λ _. ⌜ MovedFrom (rowsIn 16 (now (palette .entry))) (rowsIn 4 (now (joints .entry)))
+        (rowsIn 4 (now (weights .entry))) k n (now (positions .entry)) (now (positions .exit)) (now (normals .entry))
+        (now (normals .exit)) (now (tangents .entry)) (now (tangents .exit)) ⌝ }
 {
     let mut i = 0usize;
     while i < n {
@@ -58,7 +60,9 @@ fn skin_sixteen(
     k: usize,
 )
     requires { ⌜ k + 16 ≤ length (now positions) / 3 ⌝ }
-    ensures { λ _. ⌜ MovedFrom (rowsIn 16 (now (palette .entry))) (rowsIn 4 (now (joints .entry))) (rowsIn 4 (now (weights .entry))) k 16 (now (positions .entry)) (now (positions .exit)) (now (normals .entry)) (now (normals .exit)) (now (tangents .entry)) (now (tangents .exit)) ⌝ }
+    ensures { λ _. ⌜ MovedFrom (rowsIn 16 (now (palette .entry))) (rowsIn 4 (now (joints .entry)))
+        (rowsIn 4 (now (weights .entry))) k 16 (now (positions .entry)) (now (positions .exit)) (now (normals .entry))
+        (now (normals .exit)) (now (tangents .entry)) (now (tangents .exit)) ⌝ }
 {
     if is_split(normals.len() / 3, k) | is_split(tangents.len() / 4, k) {
         skin_each(
@@ -85,7 +89,10 @@ fn skin_blocks(
     normals: &mut [f32],
     tangents: &mut [f32],
 )
-    ensures { λ _. ⌜ FirstMoved (rowsIn 16 (now (palette .entry))) (rowsIn 4 (now (joints .entry))) (rowsIn 4 (now (weights .entry))) (length (now (positions .entry)) / 3 / 16 * 16) (now (positions .entry)) (now (positions .exit)) (now (normals .entry)) (now (normals .exit)) (now (tangents .entry)) (now (tangents .exit)) ⌝ }
+    ensures { λ _. ⌜ FirstMoved (rowsIn 16 (now (palette .entry))) (rowsIn 4 (now (joints .entry)))
+        (rowsIn 4 (now (weights .entry))) (length (now (positions .entry)) / 3 / 16 * 16) (now (positions .entry))
+        (now (positions .exit)) (now (normals .entry)) (now (normals .exit)) (now (tangents .entry))
+        (now (tangents .exit)) ⌝ }
 {
     let n = positions.len() / 3 / 16;
     let mut b = 0usize;
@@ -113,7 +120,8 @@ pub fn skinned(
     normals: &mut [f32],
     tangents: &mut [f32],
 )
-    ensures { λ _. ⌜ InPlace (skinned (rowsIn 16 (now (palette .entry))) (rowsIn 4 (now (joints .entry))) (rowsIn 4 (now (weights .entry)))) positions normals tangents ⌝ }
+    ensures { λ _. ⌜ InPlace (skinned (rowsIn 16 (now (palette .entry))) (rowsIn 4 (now (joints .entry)))
+        (rowsIn 4 (now (weights .entry)))) positions normals tangents ⌝ }
 {
     skin_blocks(palette, joints, weights, positions, normals, tangents);
     let n = positions.len() / 3;

@@ -23,7 +23,8 @@ fn wide(x: u32) -> usize
 // The words of record i, where it lies whole in `words`; otherwise none.
 fn whole(words: &[u32], t: Part, stride: usize, i: usize) -> &[u32]
     requires { ⌜ 0 < stride ⌝ }
-    ensures { λ r. ⌜ (length (now r) ≡ stride → now r ≡ take stride (drop (t .at + i * stride) (now (words .entry)))) ⌝ }
+    ensures { λ r. ⌜ (length (now r) ≡ stride → now r
+        ≡ take stride (drop (t .at + i * stride) (now (words .entry)))) ⌝ }
 {
     let at = t.at;
     let len = words.len();

@@ -23,7 +23,8 @@ const WEIGHTS: usize = 64;
 // The value of a track in a table that the local array has room for.
 fn sample_decoded(table: &[u8], t: Track, time: f32, weights: &mut [f32]) -> SampledValue
     requires { ⌜ length (now table) / 4 ≤ decodedLimit ⌝ }
-    ensures { λ r. ⌜ answerOf r (now (weights .exit)) ≡ sampledIn (floatsIn (now (table .entry))) t time (now (weights .entry)) ⌝ }
+    ensures { λ r. ⌜ answerOf r (now (weights .exit))
+        ≡ sampledIn (floatsIn (now (table .entry))) t time (now (weights .entry)) ⌝ }
 {
     let mut floats = [0.0f32; DECODED];
     let n = wire::read_floats(table, &mut floats);
@@ -32,7 +33,8 @@ fn sample_decoded(table: &[u8], t: Track, time: f32, weights: &mut [f32]) -> Sam
 
 // The value of a track in any table.
 fn sample_in(table: &[u8], t: Track, time: f32, weights: &mut [f32]) -> SampledValue
-    ensures { λ r. ⌜ answerOf r (now (weights .exit)) ≡ sampledInBytes (now (table .entry)) t time (now (weights .entry)) ⌝ }
+    ensures { λ r. ⌜ answerOf r (now (weights .exit))
+        ≡ sampledInBytes (now (table .entry)) t time (now (weights .entry)) ⌝ }
 {
     let n = table.len() / 4;
     if n <= DECODED {
@@ -46,8 +48,10 @@ fn sample_in(table: &[u8], t: Track, time: f32, weights: &mut [f32]) -> SampledV
 
 // Writes a Vec3 or Quat to `value`, or so many of the weights to `out`, and tells number and count.
 fn deliver(sampled: SampledValue, weights: &[f32], value: &mut [u8; 16], out: &mut [u8]) -> Told
-    requires { ⌜ (answerOf sampled (now weights) .weights ≤ length (now weights)) × (4 * answerOf sampled (now weights) .weights ≤ length (now out)) ⌝ }
-    ensures { λ r. ⌜ DeliveredBytes (answerOf sampled (now (weights .entry))) (now (value .entry)) (now (value .exit)) (now (out .entry)) (now (out .exit)) r ⌝ }
+    requires { ⌜ (answerOf sampled (now weights) .weights ≤ length (now weights))
+        × (4 * answerOf sampled (now weights) .weights ≤ length (now out)) ⌝ }
+    ensures { λ r. ⌜ DeliveredBytes (answerOf sampled (now (weights .entry))) (now (value .entry)) (now (value .exit))
+        (now (out .entry)) (now (out .exit)) r ⌝ }
 {
     match sampled {
         SampledValue::Vec3(v) => {
@@ -84,7 +88,8 @@ fn sample_over(
     out: &mut [u8],
 ) -> Told
     requires { ⌜ length (now weights) ≡ min (length (now out) / 4) weightLimit ⌝ }
-    ensures { λ r. ⌜ DeliveredBytes (sampledInBytes (now (table .entry)) t time (floatsIn (now (out .entry)))) (now (value .entry)) (now (value .exit)) (now (out .entry)) (now (out .exit)) r ⌝ }
+    ensures { λ r. ⌜ DeliveredBytes (sampledInBytes (now (table .entry)) t time (floatsIn (now (out .entry))))
+        (now (value .entry)) (now (value .exit)) (now (out .entry)) (now (out .exit)) r ⌝ }
 {
     let sampled = sample_in(table, t, time, weights);
     deliver(sampled, weights, value, out)

@@ -140,7 +140,8 @@ fn turn_block(l: Mat3, w: usize, s: &mut [f32], k: usize, d: &mut [f32; 48])
 // Turns all whole blocks.
 fn turn_blocks(l: Mat3, w: usize, s: &mut [f32])
     requires { ⌜ (3 ≤ w) × (w ≤ 4) ⌝ }
-    ensures { λ _. ⌜ now (s .exit) ≡ firstRows w (λ _. xyzTurned (mat3 l)) (now (s .entry)) (length (now (s .entry)) / w / 16 * 16) ⌝ }
+    ensures { λ _. ⌜ now (s .exit) ≡ firstRows w (λ _. xyzTurned (mat3 l)) (now (s .entry))
+        (length (now (s .entry)) / w / 16 * 16) ⌝ }
 {
     let n = s.len() / w / 16;
     let mut d = [0.0f32; 48];
@@ -163,7 +164,8 @@ fn turn_row(l: Mat3, w: usize, s: &mut [f32], k: usize)
 // Turns the rows past the last whole block.
 fn turn_rest(l: Mat3, w: usize, s: &mut [f32])
     requires { ⌜ 3 ≤ w ⌝ }
-    ensures { λ _. ⌜ now (s .exit) ≡ rowsFrom w (λ _. xyzTurned (mat3 l)) (length (now (s .entry)) / w / 16 * 16) (now (s .entry)) (length (now (s .entry)) / w - length (now (s .entry)) / w / 16 * 16) ⌝ }
+    ensures { λ _. ⌜ now (s .exit) ≡ rowsFrom w (λ _. xyzTurned (mat3 l)) (length (now (s .entry)) / w / 16 * 16)
+        (now (s .entry)) (length (now (s .entry)) / w - length (now (s .entry)) / w / 16 * 16) ⌝ }
 {
     let n = s.len() / w;
     let k = n / 16 * 16;
@@ -177,7 +179,8 @@ fn turn_rest(l: Mat3, w: usize, s: &mut [f32])
 // Turns the directions that the rows of w floats begin with.
 pub(crate) fn turn_rows(l: Mat3, w: usize, s: &mut [f32])
     requires { ⌜ (3 ≤ w) × (w ≤ 4) ⌝ }
-    ensures { λ _. ⌜ now (s .exit) ≡ overRows w (map (xyzTurned (mat3 l)) (rowsIn w (now (s .entry)))) (now (s .entry)) ⌝ }
+    ensures { λ _. ⌜ now (s .exit) ≡ overRows w (map (xyzTurned (mat3 l)) (rowsIn w (now (s .entry))))
+        (now (s .entry)) ⌝ }
 {
     turn_blocks(l, w, s);
     turn_rest(l, w, s);

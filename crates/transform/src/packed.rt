@@ -37,7 +37,8 @@ fn square(v: Vec3) -> f32
 
 // l times each, in place, and the squares of their lengths.
 pub(crate) fn turn(l: Mat3, d: &mut [f32; 48]) -> Block
-    ensures { λ r. ⌜ Packed 16 (λ i. turned (mat3 l) (row 3 (now (d .entry)) i)) (now (d .exit)) × (r .of ≡ squaresOf (now (d .exit))) ⌝ }
+    ensures { λ r. ⌜ Packed 16 (λ i. turned (mat3 l) (row 3 (now (d .entry)) i)) (now (d .exit))
+        × (r .of ≡ squaresOf (now (d .exit))) ⌝ }
 {
     let mut out = [0.0f32; 16];
     let mut i = 0usize;
@@ -53,7 +54,8 @@ pub(crate) fn turn(l: Mat3, d: &mut [f32; 48]) -> Block
 // l times the first three floats of rows k to k + 15, and the squares of their lengths.
 pub(crate) fn gather_turned(l: Mat3, w: usize, s: &[f32], k: usize, d: &mut [f32; 48]) -> Block
     requires { ⌜ (3 ≤ w) × ((k + 16) * w ≤ length (now s)) ⌝ }
-    ensures { λ r. ⌜ Packed 16 (λ i. turned (mat3 l) (part (now (s .entry)) ((k + i) * w) 3)) (now (d .exit)) × (r .of ≡ squaresOf (now (d .exit))) ⌝ }
+    ensures { λ r. ⌜ Packed 16 (λ i. turned (mat3 l) (part (now (s .entry)) ((k + i) * w) 3)) (now (d .exit))
+        × (r .of ≡ squaresOf (now (d .exit))) ⌝ }
 {
     let mut out = [0.0f32; 16];
     let mut i = 0usize;

@@ -16,7 +16,8 @@ ghost use Rattle.transform.specs.Rigid.{TurnedAll};
 
 // Turns all normals by the normal matrix, if there is one.
 fn transform_normals(n: Linear, normals: &mut [f32])
-    ensures { λ _. ⌜ now (normals .exit) ≡ overRows 3 (map (turnedNormal (linearOf n)) (rowsIn 3 (now (normals .entry)))) (now (normals .entry)) ⌝ }
+    ensures { λ _. ⌜ now (normals .exit) ≡ overRows 3
+        (map (turnedNormal (linearOf n)) (rowsIn 3 (now (normals .entry)))) (now (normals .entry)) ⌝ }
 {
     match n {
         Linear::Of(l) => turn_rows(l, 3, normals),
@@ -26,7 +27,8 @@ fn transform_normals(n: Linear, normals: &mut [f32])
 
 // Turns all tangents by the linear part l.
 fn transform_tangents(l: Mat3, mirror: bool, tangents: &mut [f32])
-    ensures { λ _. ⌜ now (tangents .exit) ≡ overRows 4 (map (tangentBy (mat3 l) mirror) (rowsIn 4 (now (tangents .entry)))) (now (tangents .entry)) ⌝ }
+    ensures { λ _. ⌜ now (tangents .exit) ≡ overRows 4
+        (map (tangentBy (mat3 l) mirror) (rowsIn 4 (now (tangents .entry)))) (now (tangents .entry)) ⌝ }
 {
     turn_rows(l, 4, tangents);
     if !mirror {
@@ -36,7 +38,8 @@ fn transform_tangents(l: Mat3, mirror: bool, tangents: &mut [f32])
 }
 
 fn transform_directions(m: Mat4, normals: &mut [f32], tangents: &mut [f32])
-    ensures { λ _. ⌜ TurnedAll (m .m) (now (normals .entry)) (now (normals .exit)) (now (tangents .entry)) (now (tangents .exit)) ⌝ }
+    ensures { λ _. ⌜ TurnedAll (m .m) (now (normals .entry)) (now (normals .exit)) (now (tangents .entry))
+        (now (tangents .exit)) ⌝ }
 {
     transform_normals(inverse::normal_matrix(m), normals);
     transform_tangents(scene::linear_part(m), scene::linear_det(m) < 0.0, tangents);

@@ -28,7 +28,8 @@ pub extern "C" fn skinned_floats(
     normals: &mut [f32],
     tangents: &mut [f32],
 )
-    ensures { λ _. ⌜ InPlace (skinned (rowsIn 16 (now (palette .entry))) (rowsIn 4 (now (joints .entry))) (rowsIn 4 (now (weights .entry)))) positions normals tangents ⌝ }
+    ensures { λ _. ⌜ InPlace (skinned (rowsIn 16 (now (palette .entry))) (rowsIn 4 (now (joints .entry)))
+        (rowsIn 4 (now (weights .entry)))) positions normals tangents ⌝ }
 {
     skinning::skinned(palette, joints, weights, positions, normals, tangents);
 }

@@ -95,7 +95,8 @@ pub fn flip_tangent(tangents: &mut [f32], k: usize)
 
 // Flips the handedness of every tangent.
 pub fn flip_tangents(tangents: &mut [f32])
-    ensures { λ _. ⌜ now (tangents .exit) ≡ overRows 4 (map flipped (rowsIn 4 (now (tangents .entry)))) (now (tangents .entry)) ⌝ }
+    ensures { λ _. ⌜ now (tangents .exit) ≡ overRows 4 (map flipped (rowsIn 4 (now (tangents .entry))))
+        (now (tangents .entry)) ⌝ }
 {
     let n = tangents.len() / 4;
     let mut k = 0usize;

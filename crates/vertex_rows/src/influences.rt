@@ -45,7 +45,8 @@ fn add_influence(b: Blend, palette: &[f32], j: usize, w: f32) -> Blend
 // The influences of vertex v, which has a row of each.
 fn blend_row(palette: &[f32], joints: &[u32], weights: &[f32], v: usize) -> Blend
     requires { ⌜ (v < length (now joints) / 4) × (v < length (now weights) / 4) ⌝ }
-    ensures { λ r. ⌜ Blends (influences (rowsIn 16 (now (palette .entry))) (row 4 (now (joints .entry)) v) (row 4 (now (weights .entry)) v)) r ⌝ }
+    ensures { λ r. ⌜ Blends (influences (rowsIn 16 (now (palette .entry))) (row 4 (now (joints .entry)) v)
+        (row 4 (now (weights .entry)) v)) r ⌝ }
 {
     let mut b = Blend {
         any: false,
@@ -61,7 +62,8 @@ fn blend_row(palette: &[f32], joints: &[u32], weights: &[f32], v: usize) -> Blen
 
 // The matrix of vertex v.
 pub fn joint_matrix(palette: &[f32], joints: &[u32], weights: &[f32], v: usize) -> Blend
-    ensures { λ r. ⌜ blended r ≡ jointMatrix (rowsIn 16 (now (palette .entry))) (rowsIn 4 (now (joints .entry))) (rowsIn 4 (now (weights .entry))) v ⌝ }
+    ensures { λ r. ⌜ blended r ≡ jointMatrix (rowsIn 16 (now (palette .entry))) (rowsIn 4 (now (joints .entry)))
+        (rowsIn 4 (now (weights .entry))) v ⌝ }
 {
     if v < joints.len() / 4 {
         if v < weights.len() / 4 {

@@ -19,7 +19,8 @@ pub fn move_position(m: Mat4, positions: &mut [f32], k: usize)
 }
 
 fn move_positions(m: Mat4, positions: &mut [f32])
-    ensures { λ _. ⌜ now (positions .exit) ≡ overRows 3 (map (affinePoint (m .m)) (rowsIn 3 (now (positions .entry)))) (now (positions .entry)) ⌝ }
+    ensures { λ _. ⌜ now (positions .exit) ≡ overRows 3 (map (affinePoint (m .m)) (rowsIn 3 (now (positions .entry))))
+        (now (positions .entry)) ⌝ }
 {
     let n = positions.len() / 3;
     let mut k = 0usize;
@@ -40,7 +41,8 @@ fn project_position(m: Mat4, positions: &mut [f32], k: usize)
 }
 
 fn project_positions(m: Mat4, positions: &mut [f32])
-    ensures { λ _. ⌜ now (positions .exit) ≡ overRows 3 (map (transformedPoint (m .m)) (rowsIn 3 (now (positions .entry)))) (now (positions .entry)) ⌝ }
+    ensures { λ _. ⌜ now (positions .exit) ≡ overRows 3
+        (map (transformedPoint (m .m)) (rowsIn 3 (now (positions .entry)))) (now (positions .entry)) ⌝ }
 {
     let n = positions.len() / 3;
     let mut k = 0usize;
@@ -59,7 +61,8 @@ fn has_plain_bottom(m: Mat4) -> bool
 
 // Moves all positions. A plain bottom row never divides: with it, w is 1, or NaN where a position is not finite.
 pub fn transform_positions(m: Mat4, positions: &mut [f32])
-    ensures { λ _. ⌜ now (positions .exit) ≡ overRows 3 (map (transformedPoint (m .m)) (rowsIn 3 (now (positions .entry)))) (now (positions .entry)) ⌝ }
+    ensures { λ _. ⌜ now (positions .exit) ≡ overRows 3
+        (map (transformedPoint (m .m)) (rowsIn 3 (now (positions .entry)))) (now (positions .entry)) ⌝ }
 {
     if has_plain_bottom(m) {
         move_positions(m, positions);

@@ -7,7 +7,8 @@ ghost use Rattle.vertex_rows.specs.Blending.{blended, Turned, Skinned};
 
 // Turns normal and tangent v, if there are any.
 fn skin_directions(m: Mat4, normals: &mut [f32], tangents: &mut [f32], v: usize)
-    ensures { λ _. ⌜ Turned (m .m) v (now (normals .entry)) (now (normals .exit)) (now (tangents .entry)) (now (tangents .exit)) ⌝ }
+    ensures { λ _. ⌜ Turned (m .m) v (now (normals .entry)) (now (normals .exit)) (now (tangents .entry))
+        (now (tangents .exit)) ⌝ }
 {
     turn_normal(inverse::linear_inverse_transpose(m), normals, v);
     turn_tangent(
@@ -26,7 +27,8 @@ pub fn skin_vertex(
     tangents: &mut [f32],
     v: usize,
 )
-    ensures { λ _. ⌜ Skinned (blended b) v (now (positions .entry)) (now (positions .exit)) (now (normals .entry)) (now (normals .exit)) (now (tangents .entry)) (now (tangents .exit)) ⌝ }
+    ensures { λ _. ⌜ Skinned (blended b) v (now (positions .entry)) (now (positions .exit)) (now (normals .entry))
+        (now (normals .exit)) (now (tangents .entry)) (now (tangents .exit)) ⌝ }
 {
     if b.any {
         let m = b.matrix;

@@ -46,7 +46,8 @@ fn word_at(bytes: &[u8], i: usize) -> u32
 // Writes the bytes of a word from byte i on.
 fn put_word(bytes: &mut [u8], i: usize, w: u32)
     requires { ⌜ i + 4 ≤ length (now bytes) ⌝ }
-    ensures { λ _. ⌜ now (bytes .exit) ≡ take i (now (bytes .entry)) ++ wordBytes w ++ drop (i + 4) (now (bytes .entry)) ⌝ }
+    ensures { λ _. ⌜ now (bytes .exit) ≡ take i (now (bytes .entry)) ++ wordBytes w
+        ++ drop (i + 4) (now (bytes .entry)) ⌝ }
 {
     bytes[i] = (w % 256) as u8;
     bytes[i + 1] = (w / 256 % 256) as u8;

@@ -38,7 +38,10 @@ pub fn place_all(
     requires { ⌜ (graph .nodes .count ≤ nodeLimit) × (graph .nodes .count ≤ length (now places)) ⌝ }
     requires { ⌜ 2 * entriesOf (listingIn (now words) graph) ≤ length (now walk) ⌝ }
     requires { ⌜ graph .nodes .count * 16 ≤ length (now worlds) ⌝ }
-    ensures { λ r. ⌜ Run (listingIn (now (words .entry)) graph) (localIn (now (words .entry)) (now (floats .entry)) (graph .nodes) (now (marks .entry)) (now (slots .entry))) (now (walk .entry)) (now (walk .exit)) (now (places .entry)) (now (places .exit)) (now (worlds .entry)) (now (worlds .exit)) r ⌝ }
+    ensures { λ r. ⌜ Run (listingIn (now (words .entry)) graph)
+        (localIn (now (words .entry)) (now (floats .entry)) (graph .nodes) (now (marks .entry)) (now (slots .entry)))
+        (now (walk .entry)) (now (walk .exit)) (now (places .entry)) (now (places .exit)) (now (worlds .entry))
+        (now (worlds .exit)) r ⌝ }
 {
     let mut order = [0u32; NODE_LIMIT];
     let nodes = graph.nodes;
@@ -71,7 +74,9 @@ pub fn posed_node_transforms(
     places: &mut [u32],
     worlds: &mut [f32],
 ) -> Answer
-    ensures { λ r. ⌜ Placed (sceneLent words floats «node_weights» «mesh_weights» h) (now (marks .entry)) (now (slots .entry)) (now (walk .entry)) (now (walk .exit)) (now (places .entry)) (now (places .exit)) (now (worlds .entry)) (now (worlds .exit)) r ⌝ }
+    ensures { λ r. ⌜ Placed (sceneLent words floats «node_weights» «mesh_weights» h) (now (marks .entry))
+        (now (slots .entry)) (now (walk .entry)) (now (walk .exit)) (now (places .entry)) (now (places .exit))
+        (now (worlds .entry)) (now (worlds .exit)) r ⌝ }
 {
     let number = numbers::place_number(
         words,

@@ -46,7 +46,9 @@ pub(crate) fn place_number(
     poses: usize,
     worlds: usize,
 ) -> u32
-    ensures { λ r. ⌜ r ≡ placeNumber (tablesNumber (sceneLent words floats «node_weights» «mesh_weights» h)) (sceneOf (sceneLent words floats «node_weights» «mesh_weights» h)) (record { walkRoom = walk; poseSlots = poses; worldSlots = worlds }) ⌝ }
+    ensures { λ r. ⌜ r ≡ placeNumber (tablesNumber (sceneLent words floats «node_weights» «mesh_weights» h))
+        (sceneOf (sceneLent words floats «node_weights» «mesh_weights» h))
+        (record { walkRoom = walk; poseSlots = poses; worldSlots = worlds }) ⌝ }
 {
     let drawn = checks::tables_number(words, floats, node_weights, mesh_weights, h);
     if drawn != 0 {

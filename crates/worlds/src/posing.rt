@@ -18,7 +18,8 @@ fn local_matrix(
     slots: &[f32],
     i: usize,
 ) -> Mat4
-    ensures { λ r. ⌜ r .m ≡ localIn (now (words .entry)) (now (floats .entry)) nodes (now (marks .entry)) (now (slots .entry)) i ⌝ }
+    ensures { λ r. ⌜ r .m ≡ localIn (now (words .entry)) (now (floats .entry)) nodes (now (marks .entry))
+        (now (slots .entry)) i ⌝ }
 {
     let base = tables::base_of(floats, tables::node_row(words, nodes, i));
     scene::to_matrix(pose_slots::local_transform(pose_slots::pose_at(marks, slots, i), base))
@@ -44,7 +45,9 @@ pub(crate) fn place_worlds(
     order: &[u32],
     worlds: &mut [f32],
 )
-    ensures { λ _. ⌜ now (worlds .exit) ≡ foldl (placedIn (localIn (now (words .entry)) (now (floats .entry)) nodes (now (marks .entry)) (now (slots .entry))) (now (places .entry))) (now (worlds .entry)) (now (order .entry)) ⌝ }
+    ensures { λ _. ⌜ now (worlds .exit) ≡ foldl (placedIn
+        (localIn (now (words .entry)) (now (floats .entry)) nodes (now (marks .entry)) (now (slots .entry)))
+        (now (places .entry))) (now (worlds .entry)) (now (order .entry)) ⌝ }
 {
     let mut k = 0;
     while k < order.len() {
@@ -67,7 +70,9 @@ pub(crate) fn write_worlds(
     order: &[u32],
     worlds: &mut [f32],
 )
-    ensures { λ _. ⌜ now (worlds .exit) ≡ foldl (placedIn (localIn (now (words .entry)) (now (floats .entry)) nodes (now (marks .entry)) (now (slots .entry))) (now (places .entry))) (replicate (length (now (worlds .entry))) zero32) (now (order .entry)) ⌝ }
+    ensures { λ _. ⌜ now (worlds .exit) ≡ foldl (placedIn
+        (localIn (now (words .entry)) (now (floats .entry)) nodes (now (marks .entry)) (now (slots .entry)))
+        (now (places .entry))) (replicate (length (now (worlds .entry))) zero32) (now (order .entry)) ⌝ }
 {
     tables::wipe_floats(worlds);
     place_worlds(words, floats, nodes, marks, slots, places, order, worlds);

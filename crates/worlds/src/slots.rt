@@ -25,7 +25,9 @@ fn world_above(worlds: &[f32], code: u32) -> Mat4
 
 // Writes the world of node i, with the code of its place and its local matrix.
 pub(crate) fn place_one(worlds: &mut [f32], i: u32, code: u32, local: Mat4)
-    ensures { λ _. ⌜ now (worlds .exit) ≡ pick (fitsAt (now (worlds .entry)) (i * 16)) (paste (now (worlds .entry)) (i * 16) (mul (aboveIn (now (worlds .entry)) code) (local .m)) 16) (now (worlds .entry)) ⌝ }
+    ensures { λ _. ⌜ now (worlds .exit) ≡ pick (fitsAt (now (worlds .entry)) (i * 16))
+        (paste (now (worlds .entry)) (i * 16) (mul (aboveIn (now (worlds .entry)) code) (local .m)) 16)
+        (now (worlds .entry)) ⌝ }
 {
     let world = scene::mat4_mul(world_above(worlds, code), local);
     scene::store(worlds, wide(i) * 16, world);
