@@ -23,7 +23,7 @@ use Rattle.animation.specs.declared.SampledValue.the-variants as sampledValue
 use Rattle.tables.specs.declared.ChannelRow.{ChannelRow}
 use Rattle.tables.specs.Tags.{trackFor}
 use Rattle.row_checks.specs.Bounds.{tagsKnown}
-use Rattle.track_entries.specs.declared.tracks.Told.{Told}
+use Rattle.track_entries.specs.declared.floats.Told.{Told}
 use Rattle.track_entries.specs.Bytes.{decodedNumber, sampledInBytes, sampledForBytes, DeliveredBytes}
 use Rattle.track_entries.proofs.Decoding.{none-over, refused-with, decoded-draws}
 use Rattle.track_entries.proofs.Naming.{by-name, without-name}

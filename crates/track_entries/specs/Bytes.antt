@@ -14,7 +14,7 @@ use Rattle.tracks.specs.declared.Track.{Track}
 use Rattle.tracks.specs.Tracks.{keysFit, valuesFit, trackIn}
 use Rattle.tables.specs.declared.ChannelRow.{ChannelRow}
 use Rattle.tables.specs.Tags.{trackFor}
-use Rattle.track_entries.specs.declared.tracks.Told.{Told}
+use Rattle.track_entries.specs.declared.floats.Told.{Told}
 use Rattle.track_entries.specs.Tracks.{trackNumber}
 
 -- the most floats of a table that a call decodes: the size of its local array

@@ -14,7 +14,7 @@ use Rattle.tracks.specs.Tracks.{trackIn, tableNumber}
 use Rattle.tables.specs.declared.ChannelRow.{ChannelRow}
 use Rattle.tables.specs.Tags.{trackFor}
 use Rattle.row_checks.specs.Bounds.{tagsKnown}
-use Rattle.track_entries.specs.declared.tracks.Told.{Told}
+use Rattle.track_entries.specs.declared.floats.Told.{Told}
 
 -- kind, interpolation, where the keys start and how many there are, and the same of the values, as a channel's; what
 -- it drives does not matter here

@@ -1,8 +1,8 @@
 // A track sampled in a table of bytes: little-endian floats, and a track's numbers as for a table of floats. Bytes past the
 // last whole float are not counted, and a NaN is written 7fc00000.
-use crate::tracks::Told;
-use crate::tracks::is_unnamed;
-use crate::tracks::row_for;
+use crate::floats::Told;
+use crate::floats::is_unnamed;
+use crate::floats::row_for;
 use animation::SampledValue;
 use tracks::Track;
 ghost use mathlib.Core.Path.{_≡_};

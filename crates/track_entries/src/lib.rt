@@ -1,10 +1,10 @@
 // The C functions on tracks (`rt staticlib track_entries`).
 mod bytes;
-mod tracks;
+mod floats;
 
 pub use bytes::sample;
-pub use tracks::Told;
-pub use tracks::frame_floats;
-pub use tracks::keys_in_line_floats;
-pub use tracks::sample_floats;
-pub use tracks::stride_floats;
+pub use floats::Told;
+pub use floats::frame_floats;
+pub use floats::keys_in_line_floats;
+pub use floats::sample_floats;
+pub use floats::stride_floats;

@@ -1,9 +1,9 @@
--- `track_entries::tracks::frame_floats` meets its contract. Assumes nothing.
+-- `track_entries::floats::frame_floats` meets its contract. Assumes nothing.
 use mathlib.Core.Path.{sym, _∙_}
 use borrow.Author.Needs.{needs}
 use Rattle.track_entries.proofs.Handing.{no-frame, framed}
-use Rattle.track_entries.proofs.tracks.frame_floats.Statement.{statement}
-use Rattle.track_entries.proofs.tracks.frame_floats.Tie as tie
+use Rattle.track_entries.proofs.floats.frame_floats.Statement.{statement}
+use Rattle.track_entries.proofs.floats.frame_floats.Tie as tie
 
 returns : tie.Need-returns
 returns c =

@@ -1,9 +1,9 @@
--- `track_entries::tracks::keys_in_line_floats` meets its contract. Assumes nothing.
+-- `track_entries::floats::keys_in_line_floats` meets its contract. Assumes nothing.
 use mathlib.Core.Path.{sym, ap, _∙_}
 use borrow.Author.Needs.{needs}
 use Rattle.track_entries.specs.Tracks.{markOf}
-use Rattle.track_entries.proofs.tracks.keys_in_line_floats.Statement.{statement}
-use Rattle.track_entries.proofs.tracks.keys_in_line_floats.Tie as tie
+use Rattle.track_entries.proofs.floats.keys_in_line_floats.Statement.{statement}
+use Rattle.track_entries.proofs.floats.keys_in_line_floats.Tie as tie
 
 returns : tie.Need-returns
 returns c = ap markOf (sym (c .if1 .taken) ∙ c .before .keys-in-line .ensures)

@@ -1,9 +1,9 @@
--- `track_entries::tracks::is_unnamed` meets its contract. Assumes nothing.
+-- `track_entries::floats::is_unnamed` meets its contract. Assumes nothing.
 use mathlib.Core.Path.{sym, _∙_}
 use borrow.Author.Needs.{needs}
 use Rattle.track_entries.proofs.Naming.{is-named, not-named}
-use Rattle.track_entries.proofs.tracks.is_unnamed.Statement.{statement}
-use Rattle.track_entries.proofs.tracks.is_unnamed.Tie as tie
+use Rattle.track_entries.proofs.floats.is_unnamed.Statement.{statement}
+use Rattle.track_entries.proofs.floats.is_unnamed.Tie as tie
 
 returns : tie.Need-returns
 returns c =

@@ -1,4 +1,4 @@
--- `track_entries::tracks::sample_row` meets its contract. Assumes nothing.
+-- `track_entries::floats::sample_row` meets its contract. Assumes nothing.
 use mathlib.Core.Path.{refl, sym, _∙_}
 use Prim.Native.Nat.{ℕ}
 use borrow.Author.Needs.{needs}
@@ -7,8 +7,8 @@ use Rattle.model.specs.Calls.{sampled}
 use Rattle.tracks.specs.Tracks.{tableNumber}
 use Rattle.track_entries.proofs.Decoding.{refused-with}
 use Rattle.track_entries.proofs.Naming.{table-draws, by-name, without-name}
-use Rattle.track_entries.proofs.tracks.sample_row.Statement.{statement}
-use Rattle.track_entries.proofs.tracks.sample_row.Tie as tie
+use Rattle.track_entries.proofs.floats.sample_row.Statement.{statement}
+use Rattle.track_entries.proofs.floats.sample_row.Tie as tie
 
 returns : tie.Need-returns
 returns c =

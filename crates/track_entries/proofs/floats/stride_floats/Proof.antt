@@ -1,12 +1,12 @@
--- `track_entries::tracks::stride_floats` meets its contract. Assumes nothing.
+-- `track_entries::floats::stride_floats` meets its contract. Assumes nothing.
 use mathlib.Core.Path.{sym, _∙_}
 use borrow.Author.Needs.{needs}
 use Rattle.model.specs.Calls.{strideOf}
 use Rattle.tracks.specs.Tracks.{tableNumber}
 use Rattle.track_entries.proofs.Naming.{table-draws, by-name, without-name}
 use Rattle.track_entries.proofs.Handing.{no-stride}
-use Rattle.track_entries.proofs.tracks.stride_floats.Statement.{statement}
-use Rattle.track_entries.proofs.tracks.stride_floats.Tie as tie
+use Rattle.track_entries.proofs.floats.stride_floats.Statement.{statement}
+use Rattle.track_entries.proofs.floats.stride_floats.Tie as tie
 
 returns : tie.Need-returns
 returns c =

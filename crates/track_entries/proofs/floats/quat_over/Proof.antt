@@ -1,8 +1,8 @@
--- `track_entries::tracks::quat_over` meets its contract. Assumes nothing.
+-- `track_entries::floats::quat_over` meets its contract. Assumes nothing.
 use borrow.Author.Needs.{needs}
 use Rattle.track_entries.proofs.Handing.{over-four}
-use Rattle.track_entries.proofs.tracks.quat_over.Statement.{statement}
-use Rattle.track_entries.proofs.tracks.quat_over.Tie as tie
+use Rattle.track_entries.proofs.floats.quat_over.Statement.{statement}
+use Rattle.track_entries.proofs.floats.quat_over.Tie as tie
 
 returns : tie.Need-returns
 returns c = over-four (c .args .lent) (search needs) _ _ _ _

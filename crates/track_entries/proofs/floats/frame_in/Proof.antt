@@ -1,7 +1,7 @@
--- `track_entries::tracks::frame_in` meets its contract. Assumes nothing.
+-- `track_entries::floats::frame_in` meets its contract. Assumes nothing.
 use borrow.Author.Needs.{needs}
-use Rattle.track_entries.proofs.tracks.frame_in.Statement.{statement}
-use Rattle.track_entries.proofs.tracks.frame_in.Tie as tie
+use Rattle.track_entries.proofs.floats.frame_in.Statement.{statement}
+use Rattle.track_entries.proofs.floats.frame_in.Tie as tie
 
 returns : tie.Need-returns
 returns c = cc

@@ -1,8 +1,8 @@
--- `track_entries::tracks::sample_floats` meets its contract. Assumes nothing.
+-- `track_entries::floats::sample_floats` meets its contract. Assumes nothing.
 use borrow.Author.Needs.{needs}
 use Rattle.track_entries.proofs.Handing.{left-vec3, left-quat, left-weights, left-refused, sampled-alike}
-use Rattle.track_entries.proofs.tracks.sample_floats.Statement.{statement}
-use Rattle.track_entries.proofs.tracks.sample_floats.Tie as tie
+use Rattle.track_entries.proofs.floats.sample_floats.Statement.{statement}
+use Rattle.track_entries.proofs.floats.sample_floats.Tie as tie
 
 returns : tie.Need-returns
 returns c =

@@ -1,8 +1,8 @@
--- `track_entries::tracks::vec3_over` meets its contract. Assumes nothing.
+-- `track_entries::floats::vec3_over` meets its contract. Assumes nothing.
 use borrow.Author.Needs.{needs}
 use Rattle.track_entries.proofs.Handing.{over-three}
-use Rattle.track_entries.proofs.tracks.vec3_over.Statement.{statement}
-use Rattle.track_entries.proofs.tracks.vec3_over.Tie as tie
+use Rattle.track_entries.proofs.floats.vec3_over.Statement.{statement}
+use Rattle.track_entries.proofs.floats.vec3_over.Tie as tie
 
 returns : tie.Need-returns
 returns c = over-three (c .args .lent) (search needs) _ _ _
