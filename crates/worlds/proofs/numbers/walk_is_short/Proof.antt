@@ -27,4 +27,4 @@ returns-3 c =
     sym (le-ltb (s .args .walk) (entries s) (omega (arith, c .before .child-entries .ensures, c .before .before .if1 .left, c .if2 .left)))
 
 pub walk-is-short-spec : {M : Type 1} → statement M
-walk-is-short-spec = tie.close (tie.spec returns (λ c. search needs) (λ c κs. search needs) returns-2 returns-3)
+walk-is-short-spec = tie.close (tie.spec returns (λ c κs. search needs) returns-2 returns-3)
