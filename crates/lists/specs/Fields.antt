@@ -34,7 +34,9 @@ floatsAt fields at = floatsOf (listAt fields at)
 
 -- the place behind a list of so many entries at most; past all fields where it has more
 abbrev pub behindList : List ℕ → ℕ → ℕ → ℕ
-behindList fields at most = pick (leb (getD fields at 0) most) (aheadOf fields at (getD fields at 0 + 1)) (pastOf fields)
+behindList fields at most =
+    let count = getD fields at 0 in
+    pick (leb count most) (aheadOf fields at (count + 1)) (pastOf fields)
 
 -- n entries were put at the start, and past them the slice is as lent
 pub record Put {A : Type 0} (lent left : List A) (n : ℕ) : Type 0 where

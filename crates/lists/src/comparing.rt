@@ -67,7 +67,8 @@ impl Agreement {
     }
 }
 
-// Counts how each float agrees with the one of which the bits are expected; a list of another length differs once more.
+// Counts how each float agrees with the one of which the bits are expected; a list of another length differs once
+// more.
 pub fn compare(so_far: Agreement, found: &[f32], expected: &[u32], most: f64) -> Agreement
     ensures { λ r. ⌜ r ≡ compared «so_far» (now (found .entry)) (now (expected .entry)) most ⌝ }
 {

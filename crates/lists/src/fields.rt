@@ -1,5 +1,5 @@
-// Fields that were read, by their places. A list is its count and then its entries, a field each. Reading that lacks a field
-// goes past all fields and stays there, so what was read is whole where it ends just behind the last field.
+// Fields that were read, by their places. A list is its count and then its entries, a field each. Reading that lacks a
+// field goes past all fields and stays there, so what was read is whole where it ends just behind the last field.
 ghost use mathlib.Core.Path.{_≡_};
 ghost use Prim.Native.Nat.{_+_};
 ghost use lib.ListN.{getD};

@@ -1,7 +1,7 @@
-// What the programs share that replay lists of the Rust's answers: fields of hexadecimal digits on standard input, what was
-// found beside what the fields say, counts of answers, and floats in print. `read_fields` alone reads; what it read is looked
-// at by functions that give their results outright. No contract can say what is read or written: functions that do so are
-// safe and end.
+// What the programs share that replay lists of the Rust's answers: fields of hexadecimal digits on standard input,
+// what was found beside what the fields say, counts of answers, and floats in print. `read_fields` alone reads; what
+// it read is looked at by functions that give their results outright. No contract can say what is read or written:
+// functions that do so are safe and end.
 mod checking;
 mod comparing;
 mod counting;

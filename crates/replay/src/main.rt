@@ -1,10 +1,14 @@
 // Replays a fixed list of the Rust's answers (made by `compare list` of harness/) and counts the answers that differ.
-// A line has 28 bytes: a letter, a blank, 16 hexadecimal digits of input, a blank, 8 of the answer, a line end.
-// s: a root, n: a narrowing, w: a turn weight (8 digits v, 8 digits c), within 2^-19 of the weight that slerp used. The last
-// line of the output is OK where the input is whole lines, every kind was seen and nothing differs, and FAILED otherwise.
+// A line has 28 bytes: a letter, a blank, 16 hexadecimal digits of input, a blank, 8 of the answer, a line end. s: a
+// root, n: a narrowing, w: a turn weight (8 digits v, 8 digits c), within 2^-19 of the weight that slerp used. The
+// last line of the output is OK where the input is so many lines, every kind was seen and nothing differs, and FAILED
+// otherwise.
 use libc::STDIN_FILENO;
 use lists::TURN_GAP;
 use lists::Tally;
+
+// How many lines the list has.
+const LINES: u32 = 5000;
 
 fn root_is(line: &[u8; 28], answer: u32) -> bool {
     float::to_bits(square_root::sqrt(float::from_bits(lists::word(line, 10)))) == answer
@@ -94,7 +98,7 @@ fn main() {
     let mut report = Report::new();
     let mut line = [0u8; 28];
     let mut count = read_line(&mut line);
-    let mut left: u32 = 1_000_000;
+    let mut left = LINES;
     while 0 < left {
         if count != 28 {
             break;
@@ -104,5 +108,5 @@ fn main() {
         left -= 1;
     }
     let good = report.print();
-    lists::print_verdict(good & (count == 0));
+    lists::print_verdict(good & (left == 0) & (count == 0));
 }

@@ -1,5 +1,5 @@
-// The calls on a scene, by their numbers in the list. Each is made with what stands at a place, and all that it answers and
-// leaves is compared with the fields behind.
+// The calls on a scene, by their numbers in the list. Each is made with what stands at a place, and all that it
+// answers and leaves is compared with the fields behind.
 use crate::nodes;
 use crate::skins;
 use crate::vertices;

@@ -1,6 +1,7 @@
-// Replays a fixed list of the Rust's answers on generated scenes (made by `harness/run list scenes > crates/replay_scenes/stdin`;
-// harness/compare/src/list/scenes.rs says the format), and counts for each call the answers that differ. The last line is OK
-// where the input is whole, every call was seen and nothing differs, and FAILED otherwise.
+// Replays a fixed list of the Rust's answers on generated scenes, and counts for each call the answers that differ.
+// `harness/run list scenes > crates/replay_scenes/stdin` makes it, and harness/compare/src/list/scenes.rs says the
+// format. The last line is OK where the input is whole, every call was seen and nothing differs, and FAILED
+// otherwise.
 mod calls;
 mod nodes;
 mod skins;

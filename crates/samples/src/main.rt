@@ -1,7 +1,7 @@
-// Bakes two published glTF samples at several times (NOTICE says where they are from), and compares each float with what
-// the Rust gave. Scenes and answers stand in stdin, which `harness/run list published > crates/samples/stdin` makes;
-// harness/compare/src/list/published.rs says the format. The last line is OK where the input is whole and nothing differs,
-// and FAILED otherwise.
+// Bakes two published glTF samples at several times (NOTICE says where they are from), and compares each float with
+// what the Rust gave. Scenes and answers stand in stdin, which `harness/run list published > crates/samples/stdin`
+// makes; harness/compare/src/list/published.rs says the format. The last line is OK where the input is whole and
+// nothing differs, and FAILED otherwise.
 mod bakes;
 
 use lists::Tally;

@@ -1,6 +1,6 @@
-// A bake, done and compared with the one that stands in the fields: the lists of positions, normals and tangents as they are
-// lent; node, time and whether a Linear turn is between its keys; the list of the walk room; the answer; the three lists as
-// they are left. An output has up to 96 floats, the walk room up to 64 words.
+// A bake, done and compared with the one that stands in the fields: the lists of positions, normals and tangents as
+// they are lent; node, time and whether a Linear turn is between its keys; the list of the walk room; the answer; the
+// three lists as they are left. An output has up to 96 floats, the walk room up to 64 words.
 use crate::Asked;
 use crate::Outcome;
 use bake::Answer;
@@ -12,7 +12,11 @@ use lists::field_behind;
 use lists::list_at;
 use tables::Header;
 ghost use mathlib.Core.Path.{_≡_};
-ghost use Rattle.scene_lists.specs.Bakes.{behindOutputs, allowedOf, askedAt, answerAt, sameAnswer, outputsCompared};
+ghost use lib.ListN.{take};
+ghost use Rattle.lists.specs.Fields.{listAt};
+ghost use Rattle.checks.specs.Drawn.{lentAs};
+ghost use Rattle.scene_lists.specs.Bakes.{behindOutputs, leftAt, allowedOf, askedAt, answerAt, sameAnswer};
+ghost use Rattle.scene_lists.specs.Bakes.{outputsCompared, outputOf, outputLeft, Rerun, Compares, Replayed};
 
 // Behind three lists.
 fn behind_outputs(fields: &[u32], at: usize) -> usize
@@ -80,8 +84,8 @@ fn compare_outputs(
     at: usize,
     most: f64,
 ) -> Agreement
-    ensures { λ r. ⌜ r ≡ outputsCompared (now (positions .entry)) (now (normals .entry)) (now (tangents .entry))
-        (now (fields .entry)) at most ⌝ }
+    ensures { λ r. ⌜ r ≡ outputsCompared
+        (now (positions .entry)) (now (normals .entry)) (now (tangents .entry)) (now (fields .entry)) at most ⌝ }
 {
     let second = behind_list(fields, at, 96);
     let third = behind_list(fields, second, 96);
@@ -102,7 +106,14 @@ fn bake_in<'a>(
     positions: &mut [f32],
     normals: &mut [f32],
     tangents: &mut [f32],
-) -> Answer {
+) -> Answer
+    ensures { λ r. ⌜ Rerun
+        (lentAs (now (words .entry)) (now (floats .entry))
+        (now («node_weights» .entry)) (now («mesh_weights» .entry)) h)
+        asked (now (walk .entry))
+        (outputOf (now (positions .entry)) (now (normals .entry)) (now (tangents .entry)))
+        (outputOf (now (positions .exit)) (now (normals .exit)) (now (tangents .exit))) r ⌝ }
+{
     let mut marks = [0u32; 32];
     let mut slots = [0.0f32; 80];
     let mut places = [0u32; 8];
@@ -139,7 +150,14 @@ fn bake_asked<'a>(
     positions: &mut [f32],
     normals: &mut [f32],
     tangents: &mut [f32],
-) -> Answer {
+) -> Answer
+    ensures { λ r. ⌜ Rerun
+        (lentAs (now (words .entry)) (now (floats .entry))
+        (now («node_weights» .entry)) (now («mesh_weights» .entry)) h)
+        asked (take 64 (listAt (now (fields .entry)) at))
+        (outputOf (now (positions .entry)) (now (normals .entry)) (now (tangents .entry)))
+        (outputOf (now (positions .exit)) (now (normals .exit)) (now (tangents .exit))) r ⌝ }
+{
     let mut walk = [0u32; 64];
     let w = lists::read_words(fields, at, &mut walk);
     bake_in(
@@ -174,7 +192,19 @@ fn replay_in<'a>(
     positions: &mut [f32],
     normals: &mut [f32],
     tangents: &mut [f32],
-) -> Compared {
+) -> Compared
+    ensures { λ r. ⌜ Compares
+        (lentAs (now (words .entry)) (now (floats .entry))
+        (now («node_weights» .entry)) (now («mesh_weights» .entry)) h)
+        (now (fields .entry)) at
+        (outputOf (now (positions .entry)) (now (normals .entry)) (now (tangents .entry)))
+        (r .answer) (r .told) (r .floats) ⌝ }
+    ensures { λ r. ⌜ outputOf (now (positions .exit)) (now (normals .exit)) (now (tangents .exit)) ≡ outputLeft
+        (lentAs (now (words .entry)) (now (floats .entry))
+        (now («node_weights» .entry)) (now («mesh_weights» .entry)) h)
+        (now (fields .entry)) at
+        (outputOf (now (positions .entry)) (now (normals .entry)) (now (tangents .entry))) ⌝ }
+{
     let asked = asked_at(fields, at);
     let walk = ahead(fields, at, 3);
     let answer = bake_asked(
@@ -202,7 +232,9 @@ fn replay_in<'a>(
 }
 
 // The place behind a bake of which what is asked stands at a place.
-fn behind_asked(fields: &[u32], at: usize) -> usize {
+fn behind_asked(fields: &[u32], at: usize) -> usize
+    ensures { λ r. ⌜ r ≡ behindOutputs (now (fields .entry)) (leftAt (now (fields .entry)) at) ⌝ }
+{
     let told_at = behind_list(fields, ahead(fields, at, 3), 64);
     behind_outputs(fields, ahead(fields, told_at, 5))
 }
@@ -216,7 +248,12 @@ pub fn replay_bake<'a>(
     node_weights: &'a [f32],
     mesh_weights: &'a [f32],
     h: Header,
-) -> Outcome {
+) -> Outcome
+    ensures { λ r. ⌜ Replayed
+        (lentAs (now (words .entry)) (now (floats .entry))
+        (now («node_weights» .entry)) (now («mesh_weights» .entry)) h)
+        (now (fields .entry)) at r ⌝ }
+{
     let mut positions = [0.0f32; 96];
     let mut normals = [0.0f32; 96];
     let mut tangents = [0.0f32; 96];

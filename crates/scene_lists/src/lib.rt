@@ -27,8 +27,8 @@ pub(crate) struct Asked {
     most: f64,
 }
 
-// How a bake went: what it answered, whether that is the Rust's answer, how the floats that it left agree, the outputs, and
-// the place behind the bake.
+// How a bake went: what it answered, whether that is the Rust's answer, how the floats that it left agree, the first
+// two outputs, and the place behind the bake.
 pub struct Outcome {
     pub time: f32,
     pub answer: Answer,
