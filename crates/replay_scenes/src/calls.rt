@@ -42,11 +42,11 @@ fn replay_of_one<'a>(
     h: Header,
 ) -> Checked {
     match call {
-        3 => skins::check_palette(fields, at, words, floats, node_weights, mesh_weights, h),
-        4 => skins::check_root(fields, at, words, floats, node_weights, mesh_weights, h),
-        5 => skins::check_weights(fields, at, words, floats, node_weights, mesh_weights, h),
+        3 => skins::replay_palette(fields, at, words, floats, node_weights, mesh_weights, h),
+        4 => skins::replay_root(fields, at, words, floats, node_weights, mesh_weights, h),
+        5 => skins::replay_weights(fields, at, words, floats, node_weights, mesh_weights, h),
         6 => replay_bake(fields, at, words, floats, node_weights, mesh_weights, h),
-        _ => vertices::check_vertices(call, fields, at, words, floats, h),
+        _ => vertices::replay_vertices(call, fields, at, words, floats, h),
     }
 }
 
@@ -61,9 +61,9 @@ pub fn replay<'a>(
     h: Header,
 ) -> Checked {
     match call {
-        0 => nodes::check_parents(fields, at, words, floats, node_weights, mesh_weights, h),
-        1 => nodes::check_pose(fields, at, words, floats, node_weights, mesh_weights, h),
-        2 => nodes::check_places(fields, at, words, floats, node_weights, mesh_weights, h),
+        0 => nodes::replay_parents(fields, at, words, floats, node_weights, mesh_weights, h),
+        1 => nodes::replay_pose(fields, at, words, floats, node_weights, mesh_weights, h),
+        2 => nodes::replay_places(fields, at, words, floats, node_weights, mesh_weights, h),
         _ => replay_of_one(
             call,
             fields,

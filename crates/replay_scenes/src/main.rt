@@ -5,6 +5,7 @@
 mod calls;
 mod nodes;
 mod skins;
+mod told;
 mod vertices;
 
 use lists::Checked;

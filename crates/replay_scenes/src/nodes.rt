@@ -1,11 +1,11 @@
 // The calls on all nodes: parents, pose and placing. Room is for eight nodes and 32 entries.
+use crate::told;
 use lists::Checked;
 use lists::ahead;
 use lists::behind_list;
 use tables::Header;
-use worlds::Answer;
 
-fn check_parents_in(
+fn replay_parents_in(
     fields: &[u32],
     at: usize,
     words: &[u32],
@@ -16,11 +16,10 @@ fn check_parents_in(
     out: &mut [u32],
 ) -> Checked {
     let number = graph::parents(words, floats, node_weights, mesh_weights, h, out);
-    let told = Checked::new(at).number(fields, number as usize);
-    told.words(fields, out, 8)
+    told::check_parents(fields, at, number, out)
 }
 
-pub fn check_parents(
+pub fn replay_parents(
     fields: &[u32],
     at: usize,
     words: &[u32],
@@ -31,7 +30,7 @@ pub fn check_parents(
 ) -> Checked {
     let mut out = [0u32; 8];
     let n = lists::read_words(fields, at, &mut out);
-    check_parents_in(
+    replay_parents_in(
         fields,
         behind_list(fields, at, 8),
         words,
@@ -43,7 +42,7 @@ pub fn check_parents(
     )
 }
 
-fn check_pose_in(
+fn replay_pose_in(
     fields: &[u32],
     at: usize,
     words: &[u32],
@@ -65,12 +64,10 @@ fn check_pose_in(
         marks,
         slots,
     );
-    let told = Checked::new(ahead(fields, at, 1)).number(fields, number as usize);
-    let marked = told.words(fields, marks, 32);
-    marked.floats(fields, slots, 80)
+    told::check_pose(fields, ahead(fields, at, 1), number, marks, slots)
 }
 
-pub fn check_pose(
+pub fn replay_pose(
     fields: &[u32],
     at: usize,
     words: &[u32],
@@ -84,7 +81,7 @@ pub fn check_pose(
     let slots_at = behind_list(fields, at, 32);
     let m = lists::read_words(fields, at, &mut marks);
     let s = lists::read_floats(fields, slots_at, &mut slots);
-    check_pose_in(
+    replay_pose_in(
         fields,
         behind_list(fields, slots_at, 80),
         words,
@@ -97,22 +94,7 @@ pub fn check_pose(
     )
 }
 
-fn check_placed(
-    fields: &[u32],
-    at: usize,
-    answer: Answer,
-    walk: &[u32],
-    places: &[u32],
-    worlds: &[f32],
-) -> Checked {
-    let number = Checked::new(at).number(fields, answer.number as usize);
-    let told = number.number(fields, answer.taken);
-    let walked = told.words(fields, walk, 64);
-    let placed = walked.words(fields, places, 8);
-    placed.floats(fields, worlds, 128)
-}
-
-fn check_places_in(
+fn replay_places_in(
     fields: &[u32],
     at: usize,
     words: &[u32],
@@ -138,10 +120,18 @@ fn check_places_in(
         places,
         worlds,
     );
-    check_placed(fields, at, answer, walk, places, worlds)
+    told::check_places(
+        fields,
+        at,
+        answer.number,
+        answer.taken,
+        walk,
+        places,
+        worlds,
+    )
 }
 
-fn check_posed_places(
+fn replay_posed_places(
     fields: &[u32],
     at: usize,
     words: &[u32],
@@ -160,7 +150,7 @@ fn check_posed_places(
     let k = lists::read_words(fields, at, &mut walk);
     let p = lists::read_words(fields, places_at, &mut places);
     let w = lists::read_floats(fields, worlds_at, &mut worlds);
-    check_places_in(
+    replay_places_in(
         fields,
         behind_list(fields, worlds_at, 128),
         words,
@@ -176,7 +166,7 @@ fn check_posed_places(
     )
 }
 
-pub fn check_places(
+pub fn replay_places(
     fields: &[u32],
     at: usize,
     words: &[u32],
@@ -190,7 +180,7 @@ pub fn check_places(
     let slots_at = behind_list(fields, at, 32);
     let m = lists::read_words(fields, at, &mut marks);
     let s = lists::read_floats(fields, slots_at, &mut slots);
-    check_posed_places(
+    replay_posed_places(
         fields,
         behind_list(fields, slots_at, 80),
         words,

@@ -1,11 +1,12 @@
 // Palettes, skin roots and morph weights. Room is for eight nodes and four joints.
+use crate::told;
 use lists::Checked;
 use lists::ahead;
 use lists::behind_list;
 use lists::field;
 use tables::Header;
 
-fn check_palette_in(
+fn replay_palette_in(
     fields: &[u32],
     at: usize,
     words: &[u32],
@@ -29,12 +30,11 @@ fn check_palette_in(
         worlds,
         out,
     );
-    let number = Checked::new(ahead(fields, at, 1)).number(fields, answer.number as usize);
-    let told = number.number(fields, answer.length);
-    told.floats(fields, out, 64)
+    let told_at = ahead(fields, at, 1);
+    told::check_palette(fields, told_at, answer.number, answer.length, out)
 }
 
-pub fn check_palette(
+pub fn replay_palette(
     fields: &[u32],
     at: usize,
     words: &[u32],
@@ -51,7 +51,7 @@ pub fn check_palette(
     let p = lists::read_words(fields, at, &mut places);
     let w = lists::read_floats(fields, worlds_at, &mut worlds);
     let n = lists::read_floats(fields, out_at, &mut out);
-    check_palette_in(
+    replay_palette_in(
         fields,
         behind_list(fields, out_at, 64),
         words,
@@ -65,7 +65,7 @@ pub fn check_palette(
     )
 }
 
-pub fn check_root(
+pub fn replay_root(
     fields: &[u32],
     at: usize,
     words: &[u32],
@@ -76,11 +76,15 @@ pub fn check_root(
 ) -> Checked {
     let id = field(fields, at);
     let root = skin_roots::skin_root(words, floats, node_weights, mesh_weights, h, id);
-    let number = Checked::new(ahead(fields, at, 1)).number(fields, root.number as usize);
-    number.number(fields, root.node as usize)
+    told::check_numbers(
+        fields,
+        ahead(fields, at, 1),
+        root.number,
+        root.node as usize,
+    )
 }
 
-pub fn check_weights<'a>(
+pub fn replay_weights<'a>(
     fields: &[u32],
     at: usize,
     words: &[u32],
@@ -92,6 +96,5 @@ pub fn check_weights<'a>(
     let node = field(fields, at);
     let number = skin::weights_number(words, floats, node_weights, mesh_weights, h, node);
     let weights = skin::effective_morph_weights(words, floats, node_weights, mesh_weights, h, node);
-    let told = Checked::new(ahead(fields, at, 1)).number(fields, number as usize);
-    told.floats(fields, weights, 64)
+    told::check_weights(fields, ahead(fields, at, 1), number, weights)
 }

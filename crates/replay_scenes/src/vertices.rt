@@ -1,4 +1,5 @@
 // The calls on vertices in flat slices, of up to 64 floats each.
+use crate::told;
 use lists::Checked;
 use lists::ahead;
 use lists::behind_list;
@@ -7,19 +8,7 @@ use scene::Mat4;
 use tables::Header;
 use tracks::Part;
 
-fn check_outputs(
-    fields: &[u32],
-    at: usize,
-    positions: &[f32],
-    normals: &[f32],
-    tangents: &[f32],
-) -> Checked {
-    let moved = Checked::new(at).floats(fields, positions, 64);
-    let turned = moved.floats(fields, normals, 64);
-    turned.floats(fields, tangents, 64)
-}
-
-fn check_transformed(
+fn replay_transformed(
     fields: &[u32],
     at: usize,
     positions: &mut [f32],
@@ -29,7 +18,7 @@ fn check_transformed(
     let mut m = [0.0f32; 16];
     lists::read_floats(fields, at, &mut m);
     transform::transformed(Mat4 { m }, positions, normals, tangents);
-    check_outputs(
+    told::check_vertices(
         fields,
         behind_list(fields, at, 16),
         positions,
@@ -38,7 +27,7 @@ fn check_transformed(
     )
 }
 
-fn check_skinned(
+fn replay_skinned(
     fields: &[u32],
     at: usize,
     positions: &mut [f32],
@@ -59,7 +48,7 @@ fn check_skinned(
         normals,
         tangents,
     );
-    check_outputs(
+    told::check_vertices(
         fields,
         behind_list(fields, weights_at, 64),
         positions,
@@ -68,7 +57,7 @@ fn check_skinned(
     )
 }
 
-fn check_morphed(
+fn replay_morphed(
     fields: &[u32],
     at: usize,
     words: &[u32],
@@ -93,7 +82,7 @@ fn check_morphed(
         normals,
         tangents,
     );
-    check_outputs(
+    told::check_vertices(
         fields,
         behind_list(fields, weights_at, 16),
         positions,
@@ -103,7 +92,7 @@ fn check_morphed(
 }
 
 // Past all fields where the call is not known: nobody knows how much stands behind it.
-fn check_vertices_in(
+fn replay_vertices_in(
     call: u32,
     fields: &[u32],
     at: usize,
@@ -115,9 +104,9 @@ fn check_vertices_in(
     tangents: &mut [f32],
 ) -> Checked {
     match call {
-        7 => check_transformed(fields, at, positions, normals, tangents),
-        8 => check_skinned(fields, at, positions, normals, tangents),
-        9 => check_morphed(fields, at, words, floats, h, positions, normals, tangents),
+        7 => replay_transformed(fields, at, positions, normals, tangents),
+        8 => replay_skinned(fields, at, positions, normals, tangents),
+        9 => replay_morphed(fields, at, words, floats, h, positions, normals, tangents),
         _ => Checked {
             same: false,
             at: fields.len() + 1,
@@ -125,7 +114,7 @@ fn check_vertices_in(
     }
 }
 
-pub fn check_vertices(
+pub fn replay_vertices(
     call: u32,
     fields: &[u32],
     at: usize,
@@ -141,7 +130,7 @@ pub fn check_vertices(
     let p = lists::read_floats(fields, at, &mut positions);
     let n = lists::read_floats(fields, normals_at, &mut normals);
     let t = lists::read_floats(fields, tangents_at, &mut tangents);
-    check_vertices_in(
+    replay_vertices_in(
         call,
         fields,
         behind_list(fields, tangents_at, 64),
