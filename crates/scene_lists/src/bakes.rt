@@ -14,7 +14,7 @@ use tables::Header;
 ghost use mathlib.Core.Path.{_≡_};
 ghost use lib.ListN.{take};
 ghost use Rattle.lists.specs.Fields.{listAt};
-ghost use Rattle.checks.specs.Drawn.{lentAs};
+ghost use Rattle.checks.specs.Drawn.{sceneLent};
 ghost use Rattle.scene_lists.specs.Bakes.{behindOutputs, leftAt, allowedOf, askedAt, answerAt, sameAnswer};
 ghost use Rattle.scene_lists.specs.Bakes.{outputsCompared, outputOf, outputLeft, Rerun, Compares, Replayed};
 
@@ -108,8 +108,7 @@ fn bake_in<'a>(
     tangents: &mut [f32],
 ) -> Answer
     ensures { λ r. ⌜ Rerun
-        (lentAs (now (words .entry)) (now (floats .entry))
-        (now («node_weights» .entry)) (now («mesh_weights» .entry)) h)
+        (sceneLent words floats «node_weights» «mesh_weights» h)
         asked (now (walk .entry))
         (outputOf (now (positions .entry)) (now (normals .entry)) (now (tangents .entry)))
         (outputOf (now (positions .exit)) (now (normals .exit)) (now (tangents .exit))) r ⌝ }
@@ -152,8 +151,7 @@ fn bake_asked<'a>(
     tangents: &mut [f32],
 ) -> Answer
     ensures { λ r. ⌜ Rerun
-        (lentAs (now (words .entry)) (now (floats .entry))
-        (now («node_weights» .entry)) (now («mesh_weights» .entry)) h)
+        (sceneLent words floats «node_weights» «mesh_weights» h)
         asked (take 64 (listAt (now (fields .entry)) at))
         (outputOf (now (positions .entry)) (now (normals .entry)) (now (tangents .entry)))
         (outputOf (now (positions .exit)) (now (normals .exit)) (now (tangents .exit))) r ⌝ }
@@ -194,14 +192,12 @@ fn replay_in<'a>(
     tangents: &mut [f32],
 ) -> Compared
     ensures { λ r. ⌜ Compares
-        (lentAs (now (words .entry)) (now (floats .entry))
-        (now («node_weights» .entry)) (now («mesh_weights» .entry)) h)
+        (sceneLent words floats «node_weights» «mesh_weights» h)
         (now (fields .entry)) at
         (outputOf (now (positions .entry)) (now (normals .entry)) (now (tangents .entry)))
         (r .answer) (r .told) (r .floats) ⌝ }
     ensures { λ r. ⌜ outputOf (now (positions .exit)) (now (normals .exit)) (now (tangents .exit)) ≡ outputLeft
-        (lentAs (now (words .entry)) (now (floats .entry))
-        (now («node_weights» .entry)) (now («mesh_weights» .entry)) h)
+        (sceneLent words floats «node_weights» «mesh_weights» h)
         (now (fields .entry)) at
         (outputOf (now (positions .entry)) (now (normals .entry)) (now (tangents .entry))) ⌝ }
 {
@@ -250,8 +246,7 @@ pub fn replay_bake<'a>(
     h: Header,
 ) -> Outcome
     ensures { λ r. ⌜ Replayed
-        (lentAs (now (words .entry)) (now (floats .entry))
-        (now («node_weights» .entry)) (now («mesh_weights» .entry)) h)
+        (sceneLent words floats «node_weights» «mesh_weights» h)
         (now (fields .entry)) at r ⌝ }
 {
     let mut positions = [0.0f32; 96];
