@@ -6,26 +6,36 @@
 use libc::STDIN_FILENO;
 use lists::TURN_GAP;
 use lists::Tally;
+ghost use mathlib.Core.Path.{_≡_};
+ghost use Rattle.replay.specs.Lines.{isLine, rootIs, narrowedIs, weightIsNear};
 
 // How many lines the list has.
 const LINES: u32 = 5000;
 
-fn root_is(line: &[u8; 28], answer: u32) -> bool {
+fn root_is(line: &[u8; 28], answer: u32) -> bool
+    ensures { λ r. ⌜ r ≡ rootIs (now (line .entry)) answer ⌝ }
+{
     float::to_bits(square_root::sqrt(float::from_bits(lists::word(line, 10)))) == answer
 }
 
-fn narrowed_is(line: &[u8; 28], answer: u32) -> bool {
+fn narrowed_is(line: &[u8; 28], answer: u32) -> bool
+    ensures { λ r. ⌜ r ≡ narrowedIs (now (line .entry)) answer ⌝ }
+{
     float::to_bits(float::narrow(float::from_bits_f64(lists::hexadecimal(line, 2, 16)))) == answer
 }
 
-fn weight_is_near(line: &[u8; 28], answer: u32) -> bool {
+fn weight_is_near(line: &[u8; 28], answer: u32) -> bool
+    ensures { λ r. ⌜ r ≡ weightIsNear (now (line .entry)) answer ⌝ }
+{
     let v = float::from_bits(lists::word(line, 2));
     let c = float::from_bits(lists::word(line, 10));
     lists::is_near(turn::turn_weight(v, c), float::from_bits(answer), TURN_GAP)
 }
 
 // Whether digits, blanks and the line's end stand where they should.
-fn is_line(line: &[u8; 28]) -> bool {
+fn is_line(line: &[u8; 28]) -> bool
+    ensures { λ r. ⌜ r ≡ isLine (now (line .entry)) ⌝ }
+{
     let blanks = (line[1] == b' ') & (line[18] == b' ') & (line[27] == b'\n');
     blanks & lists::are_digits(line, 2, 16) & lists::are_digits(line, 19, 8)
 }

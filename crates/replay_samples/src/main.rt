@@ -12,6 +12,8 @@ use tracks::Interpolation;
 use tracks::Kind;
 use tracks::Part;
 use tracks::Track;
+ghost use mathlib.Core.Path.{_≡_};
+ghost use Rattle.replay_samples.specs.Same.{sameAnswer};
 
 // How many fields the list has, 576 lines.
 const FIELDS: usize = 23_616;
@@ -124,11 +126,15 @@ fn found(fields: &[u32], at: usize) -> Answer {
     }
 }
 
-fn same(x: Answer, y: Answer, most: f64) -> bool {
-    let told = x.number == y.number && x.count == y.count;
-    let first = is_near(x.a, y.a, most) && is_near(x.b, y.b, most);
-    let last = is_near(x.c, y.c, most) && is_near(x.d, y.d, most);
-    told && first && last
+fn same(x: Answer, y: Answer, most: f64) -> bool
+    ensures { λ r. ⌜ r ≡ sameAnswer x y most ⌝ }
+{
+    (x.number == y.number)
+        & (x.count == y.count)
+        & is_near(x.a, y.a, most)
+        & is_near(x.b, y.b, most)
+        & is_near(x.c, y.c, most)
+        & is_near(x.d, y.d, most)
 }
 
 // How far the numbers of a Linear turn may lie apart; others have equal bits.

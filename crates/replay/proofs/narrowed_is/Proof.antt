@@ -1,0 +1,17 @@
+-- `replay::narrowed_is` meets its contract. Assumes nothing.
+use borrow.Author.Needs.{needs}
+use Rattle.replay.proofs.narrowed_is.Statement.{statement}
+use Rattle.replay.proofs.narrowed_is.Tie as tie
+
+returns : tie.Need-returns
+returns c = cc
+
+pub narrowed-is-spec : {M : Type 1} → statement M
+narrowed-is-spec =
+    tie.close
+    (tie.spec
+    (λ c κs. search needs)
+    (λ c κs. search needs)
+    (λ c κs. search needs)
+    (λ c κs. search needs)
+    returns)
