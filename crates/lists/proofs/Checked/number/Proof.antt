@@ -1,8 +1,5 @@
 -- `lists::Checked::number` meets its contract. Assumes nothing.
-use mathlib.Core.Path.{ap}
-use mathlib.Core.Bool.{_&&_}
 use borrow.Author.Needs.{needs}
-use lib.Dec.{eqb}
 use Rattle.lists.proofs.Checked.number.Statement.{statement}
 use Rattle.lists.proofs.Checked.number.Tie as tie
 

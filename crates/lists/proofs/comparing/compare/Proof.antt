@@ -4,7 +4,7 @@ use Prim.Native.Nat.{_≤_, _-_, _+_}
 use native.Mathlib.Omega.{arith}
 use borrow.Author.Needs.{needs}
 use lib.Ieee.{Float, nan}
-use lib.ListN.{length, getD, drop}
+use lib.ListN.{getD, drop}
 use Rattle.lists.specs.Compared.{agreeing, agreeingAll}
 use Rattle.lists.specs.declared.Agreement.{Agreement}
 use Rattle.lists.proofs.Agreeing.{one-further, all-counted}

@@ -1,5 +1,4 @@
 -- `lists::comparing::is_equal` meets its contract. Assumes nothing.
-use Prim.Native.Nat.{ℕ}
 use borrow.Author.Needs.{needs}
 use lib.Dec.{eqb}
 use Rattle.lists.proofs.comparing.is_equal.Statement.{statement}
