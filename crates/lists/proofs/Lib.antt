@@ -1,3 +1,1 @@
-pub mod Nearness
-pub mod Agreeing
 pub mod Copying

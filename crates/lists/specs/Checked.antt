@@ -5,7 +5,7 @@ use Prim.Native.Nat.{ℕ}
 use lib.Dec.{eqb}
 use lib.Ieee.{Float}
 use lib.ListN.{getD}
-use Rattle.lists.specs.Compared.{sameWords, sameFloats}
+use Rattle.comparing.specs.Compared.{sameWords, sameFloats}
 use Rattle.lists.specs.Fields.{aheadOf, behindList, listAt}
 use Rattle.lists.specs.declared.Checked.{Checked}
 

@@ -1,11 +1,11 @@
 // What was found, one thing after the other, beside the fields from a place on.
 use crate::Checked;
-use crate::comparing::floats_agree;
-use crate::comparing::words_agree;
 use crate::fields::ahead;
 use crate::fields::behind_list;
 use crate::fields::field;
 use crate::fields::list_at;
+use comparing::floats_agree;
+use comparing::words_agree;
 ghost use mathlib.Core.Path.{_≡_};
 ghost use mathlib.Core.Bool.{true};
 ghost use Rattle.lists.specs.Checked.{numberNext, wordsNext, floatsNext};

@@ -1,19 +1,14 @@
 // What the programs share that replay lists of the Rust's answers: fields of hexadecimal digits on standard input,
-// what was found beside what the fields say, counts of answers, and floats in print. `read_fields` alone reads; what
+// whether what was found is what they say, counts of answers, and floats in print. `read_fields` alone reads; what
 // it read is looked at by functions that give their results outright. No contract can say what is read or written:
 // functions that do so are safe and end.
 mod checking;
-mod comparing;
 mod counting;
 mod digits;
 mod fields;
 mod printing;
 mod reading;
 
-pub use comparing::compare;
-pub use comparing::floats_agree;
-pub use comparing::is_near;
-pub use comparing::words_agree;
 pub use digits::are_digits;
 pub use digits::hexadecimal;
 pub use digits::is_field;
@@ -48,12 +43,5 @@ pub struct Checked {
 // How many answers were seen, and how many of them differ.
 pub struct Tally {
     pub seen: u32,
-    pub differ: u32,
-}
-
-// How many floats have equal bits, how many lie within what is allowed, and how many differ.
-pub struct Agreement {
-    pub equal: u32,
-    pub near: u32,
     pub differ: u32,
 }

@@ -11,7 +11,7 @@ use Rattle.float.specs.Sqrt.{sqrtOf}
 use Rattle.float.specs.Narrow.{narrowOf}
 use Rattle.turn.specs.Weight.{weight}
 use Rattle.lists.specs.Digits.{spelled, areDigits}
-use Rattle.lists.specs.Near.{nearBy}
+use Rattle.comparing.specs.Near.{nearBy}
 
 -- a letter, a blank, 16 digits, a blank, 8 digits, a line's end
 abbrev pub isLine : List ℕ → Bool

@@ -29,7 +29,7 @@ fn weight_is_near(line: &[u8; 28], answer: u32) -> bool
 {
     let v = float::from_bits(lists::word(line, 2));
     let c = float::from_bits(lists::word(line, 10));
-    lists::is_near(turn::turn_weight(v, c), float::from_bits(answer), TURN_GAP)
+    comparing::is_near(turn::turn_weight(v, c), float::from_bits(answer), TURN_GAP)
 }
 
 // Whether digits, blanks and the line's end stand where they should.

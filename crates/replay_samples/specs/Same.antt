@@ -2,7 +2,7 @@
 use mathlib.Core.Bool.{Bool, _&&_}
 use lib.Dec.{eqb}
 use lib.Ieee.{Float}
-use Rattle.lists.specs.Near.{nearBy}
+use Rattle.comparing.specs.Near.{nearBy}
 use Rattle.replay_samples.specs.declared.Answer.{Answer}
 
 -- one number and one count, and each of the four numbers equal or less than `most` apart

@@ -3,11 +3,11 @@
 // differ: in a bit or, of a Linear turn, by more than 2^-19. A line has 41 fields. The last line of the output is OK
 // where the input is so many lines, every kind of answer was seen and nothing differs, and FAILED otherwise.
 use animation::SampledValue;
+use comparing::is_near;
 use lists::TURN_GAP;
 use lists::Tally;
 use lists::field;
 use lists::field_behind;
-use lists::is_near;
 use tracks::Interpolation;
 use tracks::Kind;
 use tracks::Part;

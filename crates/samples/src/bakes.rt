@@ -1,7 +1,7 @@
 // A bake of a sample, done, compared and printed.
 use bake::Answer;
+use comparing::Agreement;
 use libc::STDOUT_FILENO;
-use lists::Agreement;
 use lists::Checked;
 use lists::text;
 use scene_lists::Outcome;

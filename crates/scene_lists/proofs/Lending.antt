@@ -11,7 +11,7 @@ use Rattle.model.specs.Bake.{Output}
 use Rattle.tables.specs.Decoded.{Lent}
 use Rattle.bake.specs.Baked.{outcome, roomAfter}
 use Rattle.bake.specs.declared.Answer.{Answer}
-use Rattle.lists.specs.declared.Agreement.{Agreement}
+use Rattle.comparing.specs.declared.Agreement.{Agreement}
 use Rattle.lists.specs.Fields.{aheadOf, behindList, listAt, Copied}
 use Rattle.lists.proofs.Copying.{up-to}
 use Rattle.scene_lists.specs.declared.Asked.{Asked}

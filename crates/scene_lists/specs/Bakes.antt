@@ -14,8 +14,8 @@ use Rattle.model.specs.Lists.{pick}
 use Rattle.tables.specs.Decoded.{Lent}
 use Rattle.bake.specs.Baked.{Room, answerOf, outcome, roomAfter}
 use Rattle.bake.specs.declared.Answer.{Answer}
-use Rattle.lists.specs.declared.Agreement.{Agreement}
-use Rattle.lists.specs.Compared.{compared}
+use Rattle.comparing.specs.declared.Agreement.{Agreement}
+use Rattle.comparing.specs.Compared.{compared}
 use Rattle.lists.specs.Fields.{aheadOf, behindList, listAt, floatsAt}
 use Rattle.scene_lists.specs.declared.Asked.{Asked}
 use Rattle.scene_lists.specs.declared.Outcome.{Outcome}

@@ -4,7 +4,7 @@
 use crate::Asked;
 use crate::Outcome;
 use bake::Answer;
-use lists::Agreement;
+use comparing::Agreement;
 use lists::ahead;
 use lists::behind_list;
 use lists::field;
@@ -89,9 +89,9 @@ fn compare_outputs(
 {
     let second = behind_list(fields, at, 96);
     let third = behind_list(fields, second, 96);
-    let moved = lists::compare(Agreement::new(), positions, list_at(fields, at), most);
-    let turned = lists::compare(moved, normals, list_at(fields, second), most);
-    lists::compare(turned, tangents, list_at(fields, third), most)
+    let moved = comparing::compare(Agreement::new(), positions, list_at(fields, at), most);
+    let turned = comparing::compare(moved, normals, list_at(fields, second), most);
+    comparing::compare(turned, tangents, list_at(fields, third), most)
 }
 
 // With room for the poses and worlds of eight nodes.

@@ -7,8 +7,8 @@ mod scenes;
 use bake::Answer;
 pub use bakes::is_told;
 pub use bakes::replay_bake;
+use comparing::Agreement;
 pub use headers::header_at;
-use lists::Agreement;
 pub use scenes::places_at;
 
 // Where the lists of a scene stand, and what is behind them.

@@ -1,7 +1,7 @@
 -- `scene_lists::bakes::compare_outputs` meets its contract. Assumes nothing.
 use mathlib.Core.Path.{ap, _∙_}
 use borrow.Author.Needs.{needs}
-use Rattle.lists.specs.Compared.{compared}
+use Rattle.comparing.specs.Compared.{compared}
 use Rattle.lists.specs.Fields.{behindList, listAt}
 use Rattle.scene_lists.proofs.bakes.compare_outputs.Statement.{statement}
 use Rattle.scene_lists.proofs.bakes.compare_outputs.Tie as tie

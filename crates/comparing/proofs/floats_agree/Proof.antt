@@ -1,4 +1,4 @@
--- `lists::comparing::floats_agree` meets its contract. What is left is alike just where all is. Assumes nothing.
+-- `comparing::floats_agree` meets its contract. What is left is alike just where all is. Assumes nothing.
 use mathlib.Core.Path.{_≡_, refl, sym, ap, _∙_}
 use mathlib.Core.Bool.{Bool}
 use Prim.Native.Nat.{ℕ, _≤_, _-_}
@@ -8,11 +8,11 @@ use borrow.Author.Tests.{not-true, not-false}
 use lib.Ieee.{Float, nan}
 use lib.ListN.{length, getD, drop}
 use Rattle.float.specs.F32.{f32}
-use Rattle.lists.specs.Near.{sameBits}
-use Rattle.lists.specs.Compared.{sameFloats}
-use Rattle.lists.proofs.Agreeing.{other-length, one-alike, one-apart, none-left}
-use Rattle.lists.proofs.comparing.floats_agree.Statement.{statement}
-use Rattle.lists.proofs.comparing.floats_agree.Tie as tie
+use Rattle.comparing.specs.Near.{sameBits}
+use Rattle.comparing.specs.Compared.{sameFloats}
+use Rattle.comparing.proofs.Agreeing.{other-length, one-alike, one-apart, none-left}
+use Rattle.comparing.proofs.floats_agree.Statement.{statement}
+use Rattle.comparing.proofs.floats_agree.Tie as tie
 
 abbrev same : Float → ℕ → Bool
 same x w = sameBits x (f32 w)

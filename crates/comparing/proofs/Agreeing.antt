@@ -12,8 +12,8 @@ use lib.ListN.{length, getD, drop, length-drop, drop-of-length-le}
 use lib.Seq.{drop-cons}
 use Rattle.float.specs.F32.{f32}
 use Rattle.model.specs.Lists.{pick}
-use Rattle.lists.specs.Compared.{agreeing, agreeingAll, alike, sameWords}
-use Rattle.lists.specs.declared.Agreement.{Agreement}
+use Rattle.comparing.specs.Compared.{agreeing, agreeingAll, alike, sameWords}
+use Rattle.comparing.specs.declared.Agreement.{Agreement}
 
 -- ---- one of three
 module _ {A : Type 0} (a b c : A) (p q : Bool) where

@@ -1,8 +1,8 @@
--- `lists::comparing::is_equal` meets its contract. Assumes nothing.
+-- `comparing::is_equal` meets its contract. Assumes nothing.
 use borrow.Author.Needs.{needs}
 use lib.Dec.{eqb}
-use Rattle.lists.proofs.comparing.is_equal.Statement.{statement}
-use Rattle.lists.proofs.comparing.is_equal.Tie as tie
+use Rattle.comparing.proofs.is_equal.Statement.{statement}
+use Rattle.comparing.proofs.is_equal.Tie as tie
 
 returns : tie.Need-returns
 returns c = λ j. eqb (c .before .to-bits .ensures j) (c .to-bits2 .ensures j)

@@ -1,12 +1,12 @@
--- `lists::Agreement::with_lengths` meets its contract. Assumes nothing.
+-- `comparing::Agreement::with_lengths` meets its contract. Assumes nothing.
 use mathlib.Core.Path.{sym, ap, _∙_}
 use mathlib.Core.Bool.{Bool}
 use borrow.Author.Needs.{needs}
 use borrow.Author.Tests.{eq-eqb, ne-eqb}
 use Rattle.model.specs.Lists.{pick}
-use Rattle.lists.specs.Compared.{oneDiffers}
-use Rattle.lists.proofs.Agreement.with_lengths.Statement.{statement}
-use Rattle.lists.proofs.Agreement.with_lengths.Tie as tie
+use Rattle.comparing.specs.Compared.{oneDiffers}
+use Rattle.comparing.proofs.Agreement.with_lengths.Statement.{statement}
+use Rattle.comparing.proofs.Agreement.with_lengths.Tie as tie
 
 returns : tie.Need-returns
 returns c =

@@ -1,11 +1,11 @@
--- `lists::Agreement::with` meets its contract. Assumes nothing.
+-- `comparing::Agreement::with` meets its contract. Assumes nothing.
 use mathlib.Core.Path.{sym, _∙_}
 use borrow.Author.Needs.{needs}
-use Rattle.lists.specs.Near.{sameBits, nearBy}
-use Rattle.lists.specs.Compared.{oneEqual, oneNear, oneDiffers}
-use Rattle.lists.proofs.Agreeing.{first-of, second-of, third-of}
-use Rattle.lists.proofs.Agreement.with.Statement.{statement}
-use Rattle.lists.proofs.Agreement.with.Tie as tie
+use Rattle.comparing.specs.Near.{sameBits, nearBy}
+use Rattle.comparing.specs.Compared.{oneEqual, oneNear, oneDiffers}
+use Rattle.comparing.proofs.Agreeing.{first-of, second-of, third-of}
+use Rattle.comparing.proofs.Agreement.with.Statement.{statement}
+use Rattle.comparing.proofs.Agreement.with.Tie as tie
 
 returns : tie.Need-returns
 returns c =

@@ -1,15 +1,15 @@
--- `lists::comparing::compare` meets its contract. What is left makes up what was to be compared. Assumes nothing.
+-- `comparing::compare` meets its contract. What is left makes up what was to be compared. Assumes nothing.
 use mathlib.Core.Path.{_≡_, refl, sym, ap, _∙_}
 use Prim.Native.Nat.{_≤_, _-_, _+_}
 use native.Mathlib.Omega.{arith}
 use borrow.Author.Needs.{needs}
 use lib.Ieee.{Float, nan}
 use lib.ListN.{getD, drop}
-use Rattle.lists.specs.Compared.{agreeing, agreeingAll}
-use Rattle.lists.specs.declared.Agreement.{Agreement}
-use Rattle.lists.proofs.Agreeing.{one-further, all-counted}
-use Rattle.lists.proofs.comparing.compare.Statement.{statement}
-use Rattle.lists.proofs.comparing.compare.Tie as tie
+use Rattle.comparing.specs.Compared.{agreeing, agreeingAll}
+use Rattle.comparing.specs.declared.Agreement.{Agreement}
+use Rattle.comparing.proofs.Agreeing.{one-further, all-counted}
+use Rattle.comparing.proofs.compare.Statement.{statement}
+use Rattle.comparing.proofs.compare.Tie as tie
 
 abbrev Inv-loop : tie.InvT-loop
 Inv-loop found expected most agreement₀ n i₀ agreement i =

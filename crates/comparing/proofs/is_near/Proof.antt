@@ -1,9 +1,9 @@
--- `lists::comparing::is_near` meets its contract. Assumes nothing.
+-- `comparing::is_near` meets its contract. Assumes nothing.
 use mathlib.Core.Path.{sym, _∙_}
 use borrow.Author.Needs.{needs}
-use Rattle.lists.proofs.Nearness.{near-alike, near-below, not-near}
-use Rattle.lists.proofs.comparing.is_near.Statement.{statement}
-use Rattle.lists.proofs.comparing.is_near.Tie as tie
+use Rattle.comparing.proofs.Nearness.{near-alike, near-below, not-near}
+use Rattle.comparing.proofs.is_near.Statement.{statement}
+use Rattle.comparing.proofs.is_near.Tie as tie
 
 returns : tie.Need-returns
 returns c = near-alike _ _ _ (sym (c .before .is-equal .ensures) ∙ c .if1 .taken)

@@ -7,8 +7,8 @@ use lib.Ieee.{Float}
 use lib.ListN.{length}
 use Rattle.float.specs.F32.{f32}
 use Rattle.model.specs.Lists.{pick}
-use Rattle.lists.specs.Near.{sameBits, nearBy}
-use Rattle.lists.specs.declared.Agreement.{Agreement}
+use Rattle.comparing.specs.Near.{sameBits, nearBy}
+use Rattle.comparing.specs.declared.Agreement.{Agreement}
 
 -- one more; a count starts anew at 2^31
 abbrev pub oneMore : ℕ → ℕ

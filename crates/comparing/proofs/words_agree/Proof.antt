@@ -1,4 +1,4 @@
--- `lists::comparing::words_agree` meets its contract. What is left is alike just where all is. Assumes nothing.
+-- `comparing::words_agree` meets its contract. What is left is alike just where all is. Assumes nothing.
 use mathlib.Core.Path.{_≡_, refl, sym, _∙_}
 use Prim.Native.Nat.{_≤_, _-_}
 use native.Mathlib.Omega.{arith}
@@ -6,10 +6,10 @@ use borrow.Author.Needs.{needs}
 use borrow.Author.Tests.{eq-eqb, ne-eqb}
 use lib.Dec.{eqb}
 use lib.ListN.{length, getD, drop}
-use Rattle.lists.specs.Compared.{sameWords}
-use Rattle.lists.proofs.Agreeing.{other-length, one-alike, one-apart, none-left}
-use Rattle.lists.proofs.comparing.words_agree.Statement.{statement}
-use Rattle.lists.proofs.comparing.words_agree.Tie as tie
+use Rattle.comparing.specs.Compared.{sameWords}
+use Rattle.comparing.proofs.Agreeing.{other-length, one-alike, one-apart, none-left}
+use Rattle.comparing.proofs.words_agree.Statement.{statement}
+use Rattle.comparing.proofs.words_agree.Tie as tie
 
 abbrev Inv-loop : tie.InvT-loop
 Inv-loop found expected i₀ i =

@@ -3,7 +3,7 @@ use mathlib.Core.Path.{_≡_, sym, ap, _∙_}
 use mathlib.Core.Bool.{Bool, true, false, _&&_, _||_}
 use lib.Ieee.{Float, lt, neg}
 use Rattle.float.specs.F64.{_⊖_}
-use Rattle.lists.specs.Near.{sameBits, nearBy}
+use Rattle.comparing.specs.Near.{sameBits, nearBy}
 
 module _ (x y most : Float) where
   pub near-alike : sameBits x y ≡ true → true ≡ nearBy x y most

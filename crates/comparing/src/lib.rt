@@ -1,8 +1,14 @@
-// What was found beside what the fields say is right.
-use crate::Agreement;
+// What was found beside what is right, which is handed in as bits: for the programs that replay lists of the Rust's answers.
 ghost use mathlib.Core.Path.{_≡_};
-ghost use Rattle.lists.specs.Near.{sameBits, nearBy};
-ghost use Rattle.lists.specs.Compared.{oneMore, agreeing, ofLengths, compared, sameWords, sameFloats};
+ghost use Rattle.comparing.specs.Near.{sameBits, nearBy};
+ghost use Rattle.comparing.specs.Compared.{oneMore, agreeing, ofLengths, compared, sameWords, sameFloats};
+
+// How many floats have equal bits, how many lie within what is allowed, and how many differ.
+pub struct Agreement {
+    pub equal: u32,
+    pub near: u32,
+    pub differ: u32,
+}
 
 // Whether two floats have equal bits.
 fn is_equal(x: f32, y: f32) -> bool

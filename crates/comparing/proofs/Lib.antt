@@ -1,0 +1,2 @@
+pub mod Nearness
+pub mod Agreeing
