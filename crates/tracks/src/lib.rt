@@ -6,12 +6,12 @@ mod numbers;
 
 pub use keys::keys_in_line;
 pub use layout::centre;
+pub use layout::even_stride;
 pub use layout::factor;
 pub use layout::fits;
 pub use layout::width;
 pub use numbers::is_scalar;
 pub use numbers::lies_in;
-pub use numbers::limited_stride;
 pub use numbers::table_number;
 
 pub enum Interpolation {
