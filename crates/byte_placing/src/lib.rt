@@ -1,112 +1,61 @@
-// The placing on a scene that is lent in bytes: decoded into local arrays, slice by slice. Of a slice of more than its
-// array holds the start is decoded.
-use lent_bytes::FLOATS;
-use lent_bytes::MARKS;
-use lent_bytes::SLOTS;
-use lent_bytes::WORDS;
-use local_placing::place_rooms;
+// The placing from a given pose, its results written in bytes.
 use tables::Header;
 use worlds::Answer;
+ghost use Prim.Native.Nat.{_*_, _≤_};
+ghost use lib.ListN.{length};
 ghost use Rattle.checks.specs.Drawn.{sceneLent};
-ghost use Rattle.lent_bytes.specs.Bytes.{weightsDecoded, startDecoded};
-ghost use Rattle.local_placing.specs.Placed.{marksIn, slotsIn, PlacesLent};
+ghost use Rattle.byte_placing.specs.Placed.{placingRoom, PlacedIn, WrittenBack};
 
-fn place_pose(
+// Writes n codes and n matrices to the start of bytes.
+fn write_back(n: usize, codes: &[u32], matrices: &[f32], places: &mut [u8], worlds: &mut [u8])
+    requires { ⌜ (n ≤ length (now codes)) × (n * 16 ≤ length (now matrices)) ⌝ }
+    requires { ⌜ (4 * n ≤ length (now places)) × (4 * (n * 16) ≤ length (now worlds)) ⌝ }
+    ensures { λ _. ⌜ WrittenBack n (now (codes .entry)) (now (matrices .entry)) (now (places .entry))
+        (now (places .exit)) (now (worlds .entry)) (now (worlds .exit)) ⌝ }
+{
+    let m = n * 16;
+    wire::write_words(&codes[..n], places);
+    wire::write_floats(&matrices[..m], worlds);
+}
+
+// Where every node stands, as `worlds::posed_node_transforms` says it, in numbers and in bytes: there are as many world
+// slots as both have.
+pub fn place_over(
     words: &[u32],
     floats: &[f32],
     node_weights: &[f32],
     mesh_weights: &[f32],
     h: Header,
-    marks: &[u8],
-    slots: &[u8],
-    walk: &mut [u8],
+    marks: &[u32],
+    slots: &[f32],
+    walk: &mut [u32],
+    codes: &mut [u32],
+    matrices: &mut [f32],
     places: &mut [u8],
     worlds: &mut [u8],
 ) -> Answer
-    ensures { λ r. ⌜ PlacesLent (sceneLent words floats «node_weights» «mesh_weights» h)
-        (marksIn (now (marks .entry))) (slotsIn (now (slots .entry))) walk places worlds r ⌝ }
+    ensures { λ r. ⌜ PlacedIn 0 (sceneLent words floats «node_weights» «mesh_weights» h) (now (marks .entry))
+        (now (slots .entry)) (placingRoom walk codes matrices places worlds) r ⌝ }
 {
-    let mut four = [0u32; MARKS];
-    let mut ten = [0.0f32; SLOTS];
-    let m = wire::read_words(marks, &mut four);
-    let s = wire::read_floats(slots, &mut ten);
-    place_rooms(
+    let c = wire::least(codes.len(), places.len() / 4);
+    let m = wire::least(matrices.len(), worlds.len() / 4);
+    let a = worlds::posed_node_transforms(
         words,
         floats,
-        node_weights,
-        mesh_weights,
-        h,
-        &four[..m],
-        &ten[..s],
-        walk,
-        places,
-        worlds,
-    )
-}
-
-fn place_weights(
-    words: &[u32],
-    floats: &[f32],
-    node_weights: &[u8],
-    mesh_weights: &[u8],
-    h: Header,
-    marks: &[u8],
-    slots: &[u8],
-    walk: &mut [u8],
-    places: &mut [u8],
-    worlds: &mut [u8],
-) -> Answer
-    ensures { λ r. ⌜ PlacesLent (weightsDecoded words floats «node_weights» «mesh_weights» h)
-        (marksIn (now (marks .entry))) (slotsIn (now (slots .entry))) walk places worlds r ⌝ }
-{
-    let mut of_nodes = [0.0f32; FLOATS];
-    let mut of_meshes = [0.0f32; FLOATS];
-    let n = wire::read_floats(node_weights, &mut of_nodes);
-    let m = wire::read_floats(mesh_weights, &mut of_meshes);
-    place_pose(
-        words,
-        floats,
-        &of_nodes[..n],
-        &of_meshes[..m],
-        h,
-        marks,
-        slots,
-        walk,
-        places,
-        worlds,
-    )
-}
-
-// Places in the start of each slice.
-pub fn place_decoded(
-    words: &[u8],
-    floats: &[u8],
-    node_weights: &[u8],
-    mesh_weights: &[u8],
-    h: Header,
-    marks: &[u8],
-    slots: &[u8],
-    walk: &mut [u8],
-    places: &mut [u8],
-    worlds: &mut [u8],
-) -> Answer
-    ensures { λ r. ⌜ PlacesLent (startDecoded words floats «node_weights» «mesh_weights» h)
-        (marksIn (now (marks .entry))) (slotsIn (now (slots .entry))) walk places worlds r ⌝ }
-{
-    let mut records = [0u32; WORDS];
-    let mut numbers = [0.0f32; FLOATS];
-    let n = wire::read_words(words, &mut records);
-    let m = wire::read_floats(floats, &mut numbers);
-    place_weights(
-        &records[..n],
-        &numbers[..m],
         node_weights,
         mesh_weights,
         h,
         marks,
         slots,
         walk,
-        places,
-        worlds,
-    )
+        &mut codes[..c],
+        &mut matrices[..m],
+    );
+    let number = a.number;
+    if number != 0 {
+        return a;
+    }
+    let nodes = h.graph.nodes;
+    write_back(nodes.count, codes, matrices, places, worlds);
+    a
 }

@@ -1,79 +1,62 @@
--- The scene that is decoded from bytes. Assumes nothing.
+-- Entries that are decoded into a room, one slice after the other. Assumes nothing.
 use mathlib.Core.Path.{_≡_, refl, sym, ap, _∙_}
-use mathlib.Core.Bool.{Bool, true, false, true≢false, _||_}
-use mathlib.Core.List.{List}
-use Prim.Native.Nat.{ℕ, _/_, _≤_}
+use mathlib.Core.List.{List, [], _++_, append-nil, append-assoc}
+use Prim.Native.Nat.{ℕ, _+_, _-_, _/_, _≤_, _<_}
 use native.Mathlib.Omega.{arith}
-use borrow.Author.Tests.{ltb-false}
-use lib.Dec.{ltb}
-use lib.Ieee.{binary32, ofBits}
-use lib.ListN.{length, take, drop, replicate, length-append, length-replicate}
-use lib.Seq.{take-all, length-take-le}
+use borrow.Rule.Slice.PartMut.{midOf, postOf, putMid}
+use borrow.Author.Tests.{lt-ltb, le-ltb}
+use lib.Ieee.{Float, binary32, ofBits}
+use lib.ListN.{length, take, drop, length-append, length-drop}
+use lib.Seq.{take-all, drop-length, drop-drop, take-at, drop-append-add}
 use Rattle.model.specs.Lists.{pick}
-use Rattle.model.specs.Refusals.{lowest}
-use Rattle.model.proofs.Numbers.{lowest-some}
 use Rattle.model.specs.Written.{Wrote}
-use Rattle.wire.specs.Bytes.{wordsIn, floatsIn, readAs}
-use Rattle.wire.proofs.Reading.{count, first-read}
-use Rattle.tables.specs.declared.Header.{Header}
-use Rattle.tables.specs.Decoded.{Lent}
-use Rattle.checks.specs.Drawn.{lentAs, tablesNumber}
-use Rattle.lent_bytes.specs.Bytes.{wordLimit, floatLimit, isOver, headerFits, overNumber, lentIn, drawnIn}
+use Rattle.wire.specs.Bytes.{readAs, floatsIn}
+use Rattle.wire.proofs.Reading.{count}
+use Rattle.lent_bytes.specs.Bytes.{startingWith, puttingAt, floatsOf, countOf, whereRoom}
 
--- what is read into an array
-pub read-into : {A : Type 0} (f : ℕ → A) (bytes : List ℕ) (k : ℕ) (z : A) (left : List A) (n : ℕ) → Wrote (readAs f bytes) (replicate k z) left n
-    → take n left ≡ take k (readAs f bytes)
-read-into f bytes k z left n w = first-read f bytes (replicate k z) n left w ∙ ap (λ (m : ℕ). take m (readAs f bytes)) (length-replicate k z)
+module _ {A : Type 0} (f : ℕ → A) (bytes : List ℕ) (at : ℕ) (room left : List A) (n : ℕ) where
+  -- what is read into the room from `at` on
+  pub put-read : at + length bytes / 4 ≤ length room → Wrote (readAs f bytes) (midOf at (length room - at) room) left n
+      → putMid at (length room - at) room left ≡ puttingAt at (readAs f bytes) room
+  put-read h w =
+      let len = length-drop at room in
+      let mid : midOf at (length room - at) room ≡ drop at room = take-all (length room - at) (drop at room) (omega (arith, len)) in
+      let m : n ≡ length (readAs f bytes) = omega (arith, count f bytes, w .counted, ap length mid, len) in
+      let post : postOf at (length room - at) room ≡ [] = ap (λ (k : ℕ). drop k (drop at room)) (sym len) ∙ drop-length (drop at room) in
+      let entries : left ≡ readAs f bytes ++ drop (at + length (readAs f bytes)) room
+      = w .slice
+      ∙ (λ j. take-all n (readAs f bytes) (omega (arith, m)) j ++ drop (m j) (mid j))
+      ∙ ap (λ (l : List A). readAs f bytes ++ l) (drop-drop (length (readAs f bytes)) at room) in
+      (λ j. take at room ++ (entries j ++ post j))
+      ∙ ap (λ (l : List A). take at room ++ l) (append-nil (readAs f bytes ++ drop (at + length (readAs f bytes)) room))
+      ∙ sym (append-assoc (take at room) (readAs f bytes) (drop (at + length (readAs f bytes)) room))
 
--- and it is there
-pub read-there : {A : Type 0} (results lent left : List A) (n : ℕ) → Wrote results lent left n → n ≤ length left
-read-there results lent left n w =
-    omega (arith, ap length (w .slice), length-append (take n results) (drop n lent), length-take-le n results (omega (arith, w .counted)))
+-- entries put after those that stand at the start
+pub put-next : {A : Type 0} (first next lent : List A) (n : ℕ) → length first ≡ n
+    → puttingAt n next (startingWith first lent) ≡ startingWith (first ++ next) lent
+put-next first next lent n e =
+    let rest : drop (n + length next) (first ++ drop (length first) lent) ≡ drop (length (first ++ next)) lent
+    = ap (λ (k : ℕ). drop (k + length next) (first ++ drop (length first) lent)) (sym e)
+    ∙ drop-append-add first (drop (length first) lent) (length next)
+    ∙ drop-drop (length next) (length first) lent
+    ∙ ap (λ (k : ℕ). drop k lent) (sym (length-append first next)) in
+    λ j. take-at first (drop (length first) lent) n e j ++ next ++ rest j
 
-neither : (p q : Bool) → (p || q) ≡ false → (p ≡ false) × (q ≡ false)
-neither true q h = absurd (true≢false h)
-neither false q h = (refl, h)
+-- without room for n entries the slice stays
+pub kept : {A : Type 0} (n : ℕ) (entries lent : List A) → length lent < n → lent ≡ whereRoom n entries lent
+kept n entries lent h = sym (λ j. pick (lt-ltb (length lent) n h j) lent (startingWith entries lent))
 
--- nothing is drawn for its size where nothing is over
-not-over : (b c : Bool) → _≡_ {A = ℕ} (pick b (pick c 2 1) 0) 0 → b ≡ false
-not-over true true h = absurd (omega arith)
-not-over true false h = absurd (omega arith)
-not-over false c h = refl
-
-module _ (words floats nodeWeights meshWeights : List ℕ) (h : Header) where
-  abbrev over : ℕ
-  over = overNumber (length words / 4) (length floats / 4) (length nodeWeights / 4) (length meshWeights / 4) h
-
-  -- the start of each slice
-  abbrev pub startIn : Lent
-  startIn =
-      lentAs (take wordLimit (wordsIn words)) (take floatLimit (floatsIn floats)) (take floatLimit (floatsIn nodeWeights)) (take floatLimit (floatsIn meshWeights)) h
-
-  module _ (fit : over ≡ 0) where
-    within : isOver (length words / 4) (length floats / 4) (length nodeWeights / 4) (length meshWeights / 4) ≡ false
-    within = not-over _ (headerFits (length words / 4) h) fit
-
-    whole-floats : (bytes : List ℕ) → ltb floatLimit (length bytes / 4) ≡ false → take floatLimit (floatsIn bytes) ≡ floatsIn bytes
-    whole-floats bytes e = take-all floatLimit (floatsIn bytes) (omega (arith, count (ofBits binary32) bytes, ltb-false floatLimit (length bytes / 4) e))
-
-    whole-scene : startIn ≡ lentIn words floats nodeWeights meshWeights h
-    whole-scene =
-        let a = neither (ltb wordLimit (length words / 4)) _ within in
-        let b = neither (ltb floatLimit (length floats / 4)) _ (a .1) in
-        let c = neither (ltb floatLimit (length nodeWeights / 4)) _ (b .1) in
-        let w : take wordLimit (wordsIn words) ≡ wordsIn words
-        = take-all wordLimit (wordsIn words) (omega (arith, count (λ (n : ℕ). n) words, ltb-false wordLimit (length words / 4) (a .0))) in
-        λ j. lentAs (w j) (whole-floats floats (b .0) j) (whole-floats nodeWeights (c .0) j) (whole-floats meshWeights (c .1) j) h
-
-    drawn-within : tablesNumber (lentIn words floats nodeWeights meshWeights h) ≡ drawnIn words floats nodeWeights meshWeights h
-    unfolding drawnIn
-    drawn-within = ap (λ (n : ℕ). lowest n (tablesNumber (lentIn words floats nodeWeights meshWeights h))) (sym fit)
-
-    -- it is the scene, and its tables draw what the scene's draw
-    pub decoded-whole : _≡_ {A = ℕ × Lent} (tablesNumber startIn, startIn) (drawnIn words floats nodeWeights meshWeights h, lentIn words floats nodeWeights meshWeights h)
-    decoded-whole = (λ j. (tablesNumber (whole-scene j), whole-scene j)) ∙ (λ j. (drawn-within j, lentIn words floats nodeWeights meshWeights h))
-
-  pub drawn-over : (n : ℕ) → n ≡ over → (n ≡ 0 → ⊥) → drawnIn words floats nodeWeights meshWeights h ≡ n
-  unfolding drawnIn
-  drawn-over n e some =
-      ap (λ (m : ℕ). lowest m (tablesNumber (lentIn words floats nodeWeights meshWeights h))) (sym e) ∙ sym (lowest-some n _ some)
+-- with room for three slices, these one after the other
+pub three-put : (a b c : List ℕ) (lent one two three : List Float) → countOf a b c ≤ length lent
+    → one ≡ puttingAt 0 (floatsIn a) lent → two ≡ puttingAt (length a / 4) (floatsIn b) one
+    → three ≡ puttingAt (length a / 4 + length b / 4) (floatsIn c) two → three ≡ whereRoom (countOf a b c) (floatsOf a b c) lent
+three-put a b c lent one two three h p q r =
+    let la = count (ofBits binary32) a in
+    let lb = count (ofBits binary32) b in
+    let first : one ≡ startingWith (floatsIn a) lent = p ∙ put-next [] (floatsIn a) lent 0 refl in
+    let second : two ≡ startingWith (floatsIn a ++ floatsIn b) lent
+    = q ∙ ap (puttingAt (length a / 4) (floatsIn b)) first ∙ put-next (floatsIn a) (floatsIn b) lent (length a / 4) la in
+    let third : three ≡ startingWith (floatsOf a b c) lent
+    = r ∙ ap (puttingAt (length a / 4 + length b / 4) (floatsIn c)) second
+    ∙ put-next (floatsIn a ++ floatsIn b) (floatsIn c) lent (length a / 4 + length b / 4) (length-append (floatsIn a) (floatsIn b) ∙ (λ j. la j + lb j)) in
+    third ∙ sym (λ j. pick (le-ltb (length lent) (countOf a b c) h j) lent (startingWith (floatsOf a b c) lent))

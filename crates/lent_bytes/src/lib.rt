@@ -1,82 +1,56 @@
-// What the C functions on scenes in bytes share: how much of a scene is decoded, and how much of the lent room is used.
-use refusals::NODE_LIMIT;
-use refusals::OUT_OF_TABLE;
-use refusals::OVER_LIMIT;
-use tables::Header;
-use tracks::fits;
+// What the C functions on scenes in bytes share: the room that a scene is decoded into.
+use refusals::SHORT_SCRATCH;
 ghost use mathlib.Core.Path.{_≡_};
-ghost use Rattle.lent_bytes.specs.Bytes.{isOver, graphFits, meshesFit, skinsFit, overNumber};
+ghost use mathlib.Core.Bool.{_||_};
+ghost use Prim.Native.Nat.{_+_, _/_, _≤_};
+ghost use lib.Dec.{ltb};
+ghost use lib.ListN.{length};
+ghost use Rattle.model.specs.Lists.{pick};
+ghost use Rattle.model.specs.Refusals.{number, shortScratch};
+ghost use Rattle.wire.specs.Bytes.{floatsIn};
+ghost use Rattle.lent_bytes.specs.Bytes.{puttingAt, floatsOf, countOf, whereRoom};
 
-// The most words of a scene, and the most floats of each of its slices.
-pub const WORDS: usize = 32768;
-
-pub const FLOATS: usize = 65536;
-// The words and floats of the pose slots of 1,024 nodes.
-pub const MARKS: usize = 4096;
-
-pub const SLOTS: usize = 10240;
-// The most words of walk room, two an entry: as many as the limits of roots and child entries let a walk need.
-pub const WALK: usize = 18432;
-// The most nodes, and the floats of their worlds.
-pub const NODES: usize = NODE_LIMIT;
-
-pub const WORLDS: usize = 16384;
-
-// Whether a slice of the scene has more than its local array holds.
-fn is_over(words: usize, floats: usize, node_weights: usize, mesh_weights: usize) -> bool
-    ensures { λ r. ⌜ r ≡ isOver words floats «node_weights» «mesh_weights» ⌝ }
+// What a decoding room of so many words and floats draws, where so many are to be decoded.
+pub fn room_number(words: usize, floats: usize, words_room: usize, floats_room: usize) -> u32
+    ensures { λ r. ⌜ r ≡ pick (ltb «words_room» words || ltb «floats_room» floats) (number shortScratch) 0 ⌝ }
 {
-    if WORDS < words {
-        return true;
+    if words_room < words {
+        return SHORT_SCRATCH;
     }
-    if FLOATS < floats {
-        return true;
-    }
-    if FLOATS < node_weights {
-        return true;
-    }
-    FLOATS < mesh_weights
-}
-
-// Whether nodes, roots and channels lie in so many words.
-fn graph_fits(len: usize, h: Header) -> bool
-    ensures { λ r. ⌜ r ≡ graphFits len h ⌝ }
-{
-    let graph = h.graph;
-    fits(graph.nodes, 16, len) & fits(graph.roots, 1, len) & fits(h.channels, 8, len)
-}
-
-fn meshes_fit(len: usize, h: Header) -> bool
-    ensures { λ r. ⌜ r ≡ meshesFit len h ⌝ }
-{
-    let m = h.meshes;
-    let shapes = fits(m.meshes, 4, len) & fits(m.primitives, 16, len);
-    shapes & fits(m.targets, 12, len) & fits(m.in_betweens, 8, len)
-}
-
-fn skins_fit(len: usize, h: Header) -> bool
-    ensures { λ r. ⌜ r ≡ skinsFit len h ⌝ }
-{
-    let s = h.skins;
-    fits(s.skins, 4, len) & fits(s.skeletons, 4, len)
-}
-
-// What is drawn where a slice of the scene has more than its local array holds: 1 where a table that the header names
-// leaves the words, otherwise 2; 0 where no slice has more.
-pub fn over_number(
-    words: usize,
-    floats: usize,
-    node_weights: usize,
-    mesh_weights: usize,
-    h: Header,
-) -> u32
-    ensures { λ r. ⌜ r ≡ overNumber words floats «node_weights» «mesh_weights» h ⌝ }
-{
-    if is_over(words, floats, node_weights, mesh_weights) {
-        if graph_fits(words, h) & meshes_fit(words, h) & skins_fit(words, h) {
-            return OVER_LIMIT;
-        }
-        return OUT_OF_TABLE;
+    if floats_room < floats {
+        return SHORT_SCRATCH;
     }
     0
+}
+
+// How many floats three slices hold together.
+pub fn count_of(a: &[u8], b: &[u8], c: &[u8]) -> usize
+    ensures { λ r. ⌜ r ≡ countOf (now (a .entry)) (now (b .entry)) (now (c .entry)) ⌝ }
+{
+    a.len() / 4 + b.len() / 4 + c.len() / 4
+}
+
+// Decodes a slice to the room from a float on.
+fn decode_at(bytes: &[u8], at: usize, room: &mut [f32])
+    requires { ⌜ at + length (now bytes) / 4 ≤ length (now room) ⌝ }
+    ensures { λ _. ⌜ now (room .exit) ≡ puttingAt at (floatsIn (now (bytes .entry))) (now (room .entry)) ⌝ }
+{
+    wire::read_floats(bytes, &mut room[at..]);
+}
+
+// Decodes three slices, one after the other, to the start of the room. Where it is too short for all of them, nothing
+// is changed.
+pub fn decode_floats(a: &[u8], b: &[u8], c: &[u8], room: &mut [f32])
+    ensures { λ _. ⌜ now (room .exit)
+        ≡ whereRoom (countOf (now (a .entry)) (now (b .entry)) (now (c .entry)))
+        (floatsOf (now (a .entry)) (now (b .entry)) (now (c .entry))) (now (room .entry)) ⌝ }
+{
+    if room.len() < count_of(a, b, c) {
+        return;
+    }
+    let second = a.len() / 4;
+    let third = second + b.len() / 4;
+    decode_at(a, 0, room);
+    decode_at(b, second, room);
+    decode_at(c, third, room);
 }

@@ -1,0 +1,1 @@
+// The numbers of the calls on scenes in bytes.

@@ -1,2 +1,0 @@
-pub mod Baked
-pub mod Used
