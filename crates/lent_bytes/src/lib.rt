@@ -8,7 +8,7 @@ ghost use lib.ListN.{length};
 ghost use Rattle.model.specs.Lists.{pick};
 ghost use Rattle.model.specs.Refusals.{number, shortScratch};
 ghost use Rattle.wire.specs.Bytes.{floatsIn};
-ghost use Rattle.lent_bytes.specs.Bytes.{puttingAt, floatsOf, countOf, whereRoom};
+ghost use Rattle.lent_bytes.specs.Bytes.{puttingAt, floatsOf, countOf, whereRoom, sceneBytes, endsOf};
 
 // What a decoding room of so many words and floats draws, where so many are to be decoded.
 pub fn room_number(words: usize, floats: usize, words_room: usize, floats_room: usize) -> u32
@@ -28,6 +28,27 @@ pub fn count_of(a: &[u8], b: &[u8], c: &[u8]) -> usize
     ensures { λ r. ⌜ r ≡ countOf (now (a .entry)) (now (b .entry)) (now (c .entry)) ⌝ }
 {
     a.len() / 4 + b.len() / 4 + c.len() / 4
+}
+
+// Where each slice of a scene ends in the decoding room; the slices of floats stand one after the other.
+pub struct Ends {
+    pub words: usize,
+    pub floats: usize,
+    pub node_weights: usize,
+    pub mesh_weights: usize,
+}
+
+pub fn ends_of(words: &[u8], floats: &[u8], node_weights: &[u8], mesh_weights: &[u8]) -> Ends
+    ensures { λ r. ⌜ r ≡ endsOf (sceneBytes words floats «node_weights» «mesh_weights») ⌝ }
+{
+    let own = floats.len() / 4;
+    let mesh = own + node_weights.len() / 4;
+    Ends {
+        words: words.len() / 4,
+        floats: own,
+        node_weights: mesh,
+        mesh_weights: mesh + mesh_weights.len() / 4,
+    }
 }
 
 // Decodes a slice to the room from a float on.

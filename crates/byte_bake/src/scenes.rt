@@ -1,0 +1,120 @@
+use bake::Answer;
+use byte_baking::bake_over;
+use lent_bytes::Ends;
+use tables::Header;
+ghost use mathlib.Core.Path.{_≡_};
+ghost use lib.ListN.{length};
+ghost use Rattle.bake.specs.Baked.{room};
+ghost use Rattle.lent_bytes.specs.Bytes.{bytesLent, sceneBytes, decodingRoom, drawnBy, decodedTo, standingIn, Within};
+ghost use Rattle.byte_baking.specs.Output.{byteOutput};
+ghost use Rattle.byte_baking.specs.Baked.{BakedIn};
+
+// Bakes the scene that stands in the decoding room.
+fn bake_standing<'a>(
+    words: &[u32],
+    floats: &'a [f32],
+    e: Ends,
+    h: Header,
+    node: u32,
+    time: f32,
+    marks: &mut [u32],
+    slots: &mut [f32],
+    walk: &mut [u32],
+    places: &mut [u32],
+    worlds: &mut [f32],
+    position_floats: &mut [f32],
+    normal_floats: &mut [f32],
+    tangent_floats: &mut [f32],
+    positions: &mut [u8],
+    normals: &mut [u8],
+    tangents: &mut [u8],
+) -> Answer
+    requires { ⌜ Within e (length (now words)) (length (now floats)) ⌝ }
+    ensures { λ r. ⌜ BakedIn 0 (standingIn (now (words .entry)) (now (floats .entry)) e h) node time
+        (room marks slots walk places worlds «position_floats» «normal_floats» «tangent_floats»)
+        (byteOutput positions normals tangents) r ⌝ }
+{
+    let n = e.words;
+    let own = e.floats;
+    let mesh = e.node_weights;
+    let end = e.mesh_weights;
+    bake_over(
+        &words[..n],
+        &floats[..own],
+        &floats[own..mesh],
+        &floats[mesh..end],
+        h,
+        node,
+        time,
+        marks,
+        slots,
+        walk,
+        places,
+        worlds,
+        position_floats,
+        normal_floats,
+        tangent_floats,
+        positions,
+        normals,
+        tangents,
+    )
+}
+
+// Decodes the scene into room that is long enough, and bakes.
+fn bake_decoded(
+    words: &[u8],
+    floats: &[u8],
+    node_weights: &[u8],
+    mesh_weights: &[u8],
+    h: Header,
+    node: u32,
+    time: f32,
+    word_room: &mut [u32],
+    float_room: &mut [f32],
+    marks: &mut [u32],
+    slots: &mut [f32],
+    walk: &mut [u32],
+    places: &mut [u32],
+    worlds: &mut [f32],
+    position_floats: &mut [f32],
+    normal_floats: &mut [f32],
+    tangent_floats: &mut [f32],
+    positions: &mut [u8],
+    normals: &mut [u8],
+    tangents: &mut [u8],
+) -> Answer
+    requires { ⌜ drawnBy (record {
+      words = now words;
+      floats = now floats;
+      nodeWeights = now «node_weights»;
+      meshWeights = now «mesh_weights»;
+    }) (record { words = now «word_room»; floats = now «float_room» }) ≡ 0 ⌝ }
+    ensures { λ r. ⌜ BakedIn 0 (bytesLent words floats «node_weights» «mesh_weights» h) node time
+        (room marks slots walk places worlds «position_floats» «normal_floats» «tangent_floats»)
+        (byteOutput positions normals tangents) r ⌝ }
+    ensures { λ _. ⌜ decodingRoom «word_room» «float_room» .to
+        ≡ decodedTo (sceneBytes words floats «node_weights» «mesh_weights») (decodingRoom «word_room» «float_room» .from) ⌝ }
+{
+    wire::read_words(words, word_room);
+    lent_bytes::decode_floats(floats, node_weights, mesh_weights, float_room);
+    let e = lent_bytes::ends_of(words, floats, node_weights, mesh_weights);
+    bake_standing(
+        word_room,
+        float_room,
+        e,
+        h,
+        node,
+        time,
+        marks,
+        slots,
+        walk,
+        places,
+        worlds,
+        position_floats,
+        normal_floats,
+        tangent_floats,
+        positions,
+        normals,
+        tangents,
+    )
+}
