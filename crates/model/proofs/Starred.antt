@@ -19,4 +19,4 @@ pub starred : Each Holds table
 unfolding add sub mul div neg lt le eq isNan ofInt ofBits round zipWith foldl keep every anyOf sumOf tabulate indexed total dot moved
     rising inLine locateFrom locate lerp valueFactor outFactor nextFactor inFactor cubic interpolated valueAt sample listed walk placedOf trace order taken markRoots markOne markAll takeId explore marksOf
     withDeltas inserted stations segmentFrom between stationTarget withTarget withTargets influences skinned firstOf sampleNumber
-starred = (refl, (refl, (refl, (refl, (refl, (refl, (refl, (refl, (weight-of-0, (weight-of-1, ((refl, refl), (refl, ((refl, refl), ((refl, refl), (refl, (refl, (refl, (refl, (refl, (refl, tt))))))))))))))))))))
+starred = (refl, (refl, (refl, (refl, (refl, (refl, (refl, (refl, (refl, (refl, (weight-of-0, (weight-of-1, ((refl, refl), (refl, ((refl, refl), ((refl, refl), (refl, (refl, (refl, (refl, (refl, (refl, tt))))))))))))))))))))))

@@ -100,6 +100,8 @@ table =
     ∷ samples step (whole 0 ∷ whole 1 ∷ []) (whole 0 ∷ whole 10 ∷ []) (1 per 4) (whole 0)
     ∷ samples linear (whole 0 ∷ whole 1 ∷ []) (whole 0 ∷ whole 10 ∷ []) minusOne (whole 0)
     ∷ samples linear (whole 0 ∷ whole 1 ∷ []) (whole 0 ∷ whole 10 ∷ []) infinity (whole 10)
+    ∷ samples step (whole 0 ∷ whole 1 ∷ []) (whole 0 ∷ whole 10 ∷ []) minusOne (whole 0)
+    ∷ samples step (whole 0 ∷ whole 1 ∷ []) (whole 0 ∷ whole 10 ∷ []) infinity (whole 10)
     ∷ refuses [] (whole 0 ∷ []) 4
     ∷ refuses (whole 0 ∷ whole 1 ∷ []) (whole 0 ∷ whole 1 ∷ whole 2 ∷ []) 4
     ∷ refuses (whole 0 ∷ whole 0 ∷ []) (whole 0 ∷ whole 1 ∷ []) 5
