@@ -11,7 +11,7 @@ use lib.ListN.{length}
 use Rattle.model.specs.Lists.{pick}
 use Rattle.model.specs.Scene.{Scene, Track}
 use Rattle.model.specs.Sampling.{even, stride, inLine}
-use Rattle.model.specs.Refusals.{number, noTime, keysOutOfLine, shortScratch, Test, firstOf, lowest, Scratch, someKeysOutOfLine, scratchIsShort, earlyNumber, isScalars, badFrame, frameNumber, sampleNumber}
+use Rattle.model.specs.Refusals.{number, Test, firstOf, lowest, Scratch, earlyTests, earlyNumber, isScalars, badFrame, frameNumber, sampleNumber}
 use Rattle.model.specs.Agree.{Each}
 
 -- no number is above that of the last test
@@ -33,17 +33,10 @@ lowest-le : (g k n : ℕ) → g ≤ n → k ≤ n → lowest g k ≤ n
 lowest-le zero k n a b = b
 lowest-le (suc g) k n a b = a
 
-abbrev tests : Scene → Float → Scratch → List Test
-tests s time room =
-    record { applies = isNan time; refusal = noTime }
-    ∷ record { applies = someKeysOutOfLine s; refusal = keysOutOfLine }
-    ∷ record { applies = scratchIsShort s room; refusal = shortScratch }
-    ∷ []
-
 pub early-le : (g : ℕ) (s : Scene) (time : Float) (room : Scratch) → g ≤ 2 → earlyNumber g s time room ≤ 6
 unfolding earlyNumber
 early-le g s time room h =
-    lowest-le g (firstOf (tests s time room)) 6 (le-trans h (lit≤ tt)) (first-le 6 (tests s time room) (lit≤ tt, (lit≤ tt, (lit≤ tt, tt))))
+    lowest-le g (firstOf (earlyTests s time room)) 6 (le-trans h (lit≤ tt)) (first-le 6 (earlyTests s time room) (lit≤ tt, (lit≤ tt, (lit≤ tt, tt))))
 
 -- ---- the calls on one track, test by test
 

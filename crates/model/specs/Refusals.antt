@@ -84,28 +84,30 @@ abbrev pub trackOverLimit : Track → Bool
 trackOverLimit t = ltb keyLimit (length (t .keys)) || (isScalars (t .kind) && even t && ltb weightLimit (stride t))
 
 -- one track at a time; room is asked of a scalar track alone, whose weights are written out
-unfoldable pub sampleNumber : ℕ → Track → Float → ℕ → ℕ
-sampleNumber tables t time room =
-    lowest tables
-    (firstOf
-    (record { applies = isNan time; refusal = noTime }
+abbrev pub sampleTests : Track → Float → ℕ → List Test
+sampleTests t time room =
+    record { applies = isNan time; refusal = noTime }
     ∷ record { applies = not (even t); refusal = unevenTrack }
     ∷ record { applies = not (inLine (t .keys)); refusal = keysOutOfLine }
     ∷ record { applies = isScalars (t .kind) && ltb room (stride t); refusal = shortOutput }
-    ∷ []))
+    ∷ []
+
+unfoldable pub sampleNumber : ℕ → Track → Float → ℕ → ℕ
+sampleNumber tables t time room = lowest tables (firstOf (sampleTests t time room))
 
 -- frame k is not one of a scalar track with so many keys, or all three rows are asked of a track that is no cubic spline
 abbrev pub badFrame : Kind → Interpolation → ℕ → Bool → ℕ → Bool
 badFrame kind i keys rows k = not (isScalars kind) || not (ltb k keys) || (rows && not (isCubic i))
 
 -- a frame of a scalar track; whether all three rows of a cubic spline are asked for
-unfoldable pub frameNumber : ℕ → Track → Bool → ℕ → ℕ
-frameNumber tables t rows k =
-    lowest tables
-    (firstOf
-    (record { applies = not (even t); refusal = unevenTrack }
+abbrev pub frameTests : Track → Bool → ℕ → List Test
+frameTests t rows k =
+    record { applies = not (even t); refusal = unevenTrack }
     ∷ record { applies = badFrame (t .kind) (t .interpolation) (length (t .keys)) rows k; refusal = noSuchFrame }
-    ∷ []))
+    ∷ []
+
+unfoldable pub frameNumber : ℕ → Track → Bool → ℕ → ℕ
+frameNumber tables t rows k = lowest tables (firstOf (frameTests t rows k))
 
 -- an even track that is aimed at a node, whatever its kind, has keys that are not in line
 abbrev pub someKeysOutOfLine : Scene → Bool
@@ -123,26 +125,30 @@ scratchIsShort s room =
     ltb (room .walkRoom) (length (s .roots) + childEntries s) || ltb (room .poseSlots) (nodeCount s) || ltb (room .worldSlots) (nodeCount s)
 
 -- `sample_pose`
-unfoldable pub poseNumber : ℕ → Scene → Float → ℕ → ℕ
-poseNumber tables s time slots =
-    lowest tables
-    (firstOf
-    (record { applies = isNan time; refusal = noTime }
+abbrev pub poseTests : Scene → Float → ℕ → List Test
+poseTests s time slots =
+    record { applies = isNan time; refusal = noTime }
     ∷ record { applies = someKeysOutOfLine s; refusal = keysOutOfLine }
     ∷ record { applies = ltb slots (nodeCount s); refusal = shortScratch }
-    ∷ []))
+    ∷ []
+
+unfoldable pub poseNumber : ℕ → Scene → Float → ℕ → ℕ
+poseNumber tables s time slots = lowest tables (firstOf (poseTests s time slots))
 
 -- `posed_node_transforms`, from a pose that is given
+abbrev pub placeTests : Scene → Scratch → List Test
+placeTests s room = record { applies = scratchIsShort s room; refusal = shortScratch } ∷ []
+
 unfoldable pub placeNumber : ℕ → Scene → Scratch → ℕ
-placeNumber tables s room =
-    lowest tables (firstOf (record { applies = scratchIsShort s room; refusal = shortScratch } ∷ []))
+placeNumber tables s room = lowest tables (firstOf (placeTests s room))
 
 -- a bake, as far as number 6
-unfoldable pub earlyNumber : ℕ → Scene → Float → Scratch → ℕ
-earlyNumber tables s time room =
-    lowest tables
-    (firstOf
-    (record { applies = isNan time; refusal = noTime }
+abbrev pub earlyTests : Scene → Float → Scratch → List Test
+earlyTests s time room =
+    record { applies = isNan time; refusal = noTime }
     ∷ record { applies = someKeysOutOfLine s; refusal = keysOutOfLine }
     ∷ record { applies = scratchIsShort s room; refusal = shortScratch }
-    ∷ []))
+    ∷ []
+
+unfoldable pub earlyNumber : ℕ → Scene → Float → Scratch → ℕ
+earlyNumber tables s time room = lowest tables (firstOf (earlyTests s time room))

@@ -1,4 +1,5 @@
--- The scale that a matrix is split into is three lengths, none of them below zero or -0, whatever the matrix. Assumes nothing.
+-- The scale that a matrix is split into is three lengths, none of them below zero or -0, whatever the matrix.
+-- Assumes nothing.
 use mathlib.Core.Path.{_≡_, refl, sym, _∙_}
 use mathlib.Core.Bool.{Bool, true, false, cond, Bool·beq, false≢true}
 use mathlib.Core.List.{[], _∷_, zipWith}
@@ -6,7 +7,8 @@ use Prim.Native.Nat.{ℕ, zero, suc, _+_, _*_, _^_}
 use native.Mathlib.Omega.{arith}
 use borrow.Author.Tests.{le-ltb}
 use lib.Dec.{ltb}
-use lib.Ieee.{Float, nan, inf, fin, Format, binary32, up, down, odd, units, round, sum, add, mul, unlike, lt, ofBits, low, emax, prec}
+use lib.Ieee.{Float, nan, inf, fin, Format, binary32, up, down, odd, units, round, sum, add, mul, unlike, lt, ofBits}
+use lib.Ieee.{low, emax, prec}
 use Rattle.float.specs.F32.{_⊕_, _⊗_, zero32}
 use Rattle.float.specs.Sqrt.{rootRound, sqrtOf}
 use Rattle.model.specs.Lists.{foldl}

@@ -1,1 +1,4 @@
 pub mod Lengths
+pub mod Judging
+pub mod Calls
+pub mod Baking
