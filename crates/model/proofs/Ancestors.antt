@@ -17,15 +17,15 @@ use Rattle.model.proofs.Tests.{both, either}
 -- ---- members of a list
 
 module _ (b x : ℕ) (xs : List ℕ) where
-  among-first : x ≡ b → isAmong b (x ∷ xs) ≡ true
+  pub among-first : x ≡ b → isAmong b (x ∷ xs) ≡ true
   unfolding anyOf
   among-first e = ap (λ (t : Bool). t || isAmong b xs) (eq-eqb x b e)
 
-  among-rest : isAmong b xs ≡ true → isAmong b (x ∷ xs) ≡ true
+  pub among-rest : isAmong b xs ≡ true → isAmong b (x ∷ xs) ≡ true
   unfolding anyOf
   among-rest h = ap (λ (t : Bool). eqb x b || t) h ∙ or-true (eqb x b)
 
-  among-cases : isAmong b (x ∷ xs) ≡ true → (x ≡ b) ⊎ (isAmong b xs ≡ true)
+  pub among-cases : isAmong b (x ∷ xs) ≡ true → (x ≡ b) ⊎ (isAmong b xs ≡ true)
   unfolding anyOf
   among-cases h = elim (either (eqb x b) (isAmong b xs) h) [ inl e ↦ inl (eqb-true x b e) | inr m ↦ inr m ]
 

@@ -50,7 +50,7 @@ told ps (e ∷ es) h d m = go (List·Memᴰ·cases-cons m) (told (set ps (e .nod
     go (inr q) r = r q
 
 -- what a list holds after a store it held before, or it is what was stored
-set-cases : {A : Type 0} (l : List A) (x i : ℕ) (v w d : A) → getD (set l x v) i d ≡ w → (getD l i d ≡ w) ⊎ ((i ≡ x) × (w ≡ v))
+pub set-cases : {A : Type 0} (l : List A) (x i : ℕ) (v w d : A) → getD (set l x v) i d ≡ w → (getD l i d ≡ w) ⊎ ((i ≡ x) × (w ≡ v))
 set-cases [] x i v w d h = inl h
 set-cases (y ∷ l) zero zero v w d h = inr (refl, sym h)
 set-cases (y ∷ l) zero (suc i) v w d h = inl h

@@ -117,7 +117,7 @@ was-free (r ∷ ps) zero (suc i) q n h = h
 was-free (r ∷ ps) (suc x) zero q n h = h
 was-free (r ∷ ps) (suc x) (suc i) q n h = was-free ps x i q n h
 
-now-taken : (ps : List Place) (x : ℕ) (q : Place) → isFree q ≡ false → free (set ps x q) x ≡ false
+pub now-taken : (ps : List Place) (x : ℕ) (q : Place) → isFree q ≡ false → free (set ps x q) x ≡ false
 now-taken [] x q n = refl
 now-taken (r ∷ ps) zero q n = n
 now-taken (r ∷ ps) (suc x) q n = now-taken ps x q n
