@@ -20,11 +20,11 @@ use Rattle.model.proofs.Paths.{replicate-at, set-cases}
 
 -- ---- how many nodes are not marked
 
-unfoldable unmarked : List Place → ℕ
+unfoldable pub unmarked : List Place → ℕ
 unmarked [] = 0
 unmarked (p ∷ ps) = pick (isFree p) 1 0 + unmarked ps
 
-unmarked-fewer : (ps : List Place) (i : ℕ) (q : Place) → isFree q ≡ false → free ps i ≡ true
+pub unmarked-fewer : (ps : List Place) (i : ℕ) (q : Place) → isFree q ≡ false → free ps i ≡ true
     → suc (unmarked (set ps i q)) ≡ unmarked ps
 unfolding unmarked
 unmarked-fewer [] i q n f = absurd (true≢false (sym f))
@@ -34,7 +34,7 @@ unmarked-fewer (p ∷ ps) zero q n f =
     omega arith
 unmarked-fewer (p ∷ ps) (suc i) q n f = omega (arith, unmarked-fewer ps i q n f)
 
-unmarked-most : (ps : List Place) → unmarked ps ≤ length ps
+pub unmarked-most : (ps : List Place) → unmarked ps ≤ length ps
 unfolding unmarked
 unmarked-most [] = omega arith
 unmarked-most (unplaced ∷ ps) = omega (arith, unmarked-most ps)
@@ -189,7 +189,7 @@ module _ (n : ℕ) (children : ℕ → List ℕ) where
 
 -- ---- the roots
 
-roots-count : (roots : List ℕ) (marks : List Place) → length (markRoots roots marks) ≡ length marks
+pub roots-count : (roots : List ℕ) (marks : List Place) → length (markRoots roots marks) ≡ length marks
 unfolding markRoots
 roots-count [] marks = refl
 roots-count (r ∷ rs) marks = roots-count rs (set marks r root) ∙ length-set marks r root

@@ -4,3 +4,4 @@ pub mod Calls
 pub mod Baking
 pub mod Heights
 pub mod Above
+pub mod Settled
