@@ -2,13 +2,13 @@
 -- Assumes nothing.
 use mathlib.Core.Path.{_≡_, refl, sym, ap, _∙_, subst}
 use mathlib.Core.Logic.{_⊎_, inl, inr}
-use mathlib.Core.Bool.{Bool, true, false, _&&_, true≢false, false≢true}
+use mathlib.Core.Bool.{Bool, true, false, true≢false}
 use mathlib.Core.List.{List, [], _∷_, List·Memᴰ, List·Memᴰ·head, List·Memᴰ·tail, List·Memᴰ·not-nil}
 use mathlib.Core.List.{List·Memᴰ·cases-cons}
 use Prim.Native.Nat.{ℕ, zero, suc, _≤_, _<_}
 use native.Mathlib.Omega.{arith}
-use borrow.Author.Tests.{ltb-true, eq-eqb, ne-eqb}
-use lib.Dec.{eqb, ltb}
+use borrow.Author.Tests.{ltb-true}
+use lib.Dec.{ltb}
 use lib.ListN.{getD}
 use Rattle.model.specs.Lists.{pick, every}
 use Rattle.model.specs.Refusals.{Refusal, outOfTable, overLimit, noTime, unevenTrack, keysOutOfLine, shortScratch}
@@ -63,17 +63,17 @@ passes p (y ∷ l) h x m =
     let e = both (p y) (every p l) h in
     elim (List·Memᴰ·cases-cons m) [ inl q ↦ ap p q ∙ e .0 | inr m ↦ passes p l (e .1) x m ]
 
-none-of : (ts : List Test) → NoneApplies ts → firstOf ts ≡ 0
+passed-of : (ts : List Test) → NoneApplies ts → firstOf ts ≡ 0
 unfolding firstOf
-none-of [] h = refl
-none-of (t ∷ ts) h =
+passed-of [] h = refl
+passed-of (t ∷ ts) h =
     let e = h t (List·Memᴰ·head refl) in
-    (λ j. pick (e j) (number (t .refusal)) (firstOf ts)) ∙ none-of ts (λ u m. h u (List·Memᴰ·tail m))
+    (λ j. pick (e j) (number (t .refusal)) (firstOf ts)) ∙ passed-of ts (λ u m. h u (List·Memᴰ·tail m))
 
-zero-of : (ts : List Test) → firstOf ts ≡ 0 → NoneApplies ts
+accepted-of : (ts : List Test) → firstOf ts ≡ 0 → NoneApplies ts
 unfolding firstOf
-zero-of [] h u m = absurd (List·Memᴰ·not-nil m)
-zero-of (t ∷ ts) h u m = go (t .applies) refl h (zero-of ts)
+accepted-of [] h u m = absurd (List·Memᴰ·not-nil m)
+accepted-of (t ∷ ts) h u m = go (t .applies) refl h (accepted-of ts)
   where
     go : (b : Bool) → t .applies ≡ b → pick b (number (t .refusal)) (firstOf ts) ≡ 0 → (firstOf ts ≡ 0 → NoneApplies ts)
         → u .applies ≡ false
@@ -103,10 +103,10 @@ least-of (u ∷ us) a t l = go (u .applies) refl (List·Memᴰ·cases-cons (l .s
     go false e (inl q) r = absurd (true≢false (sym (l .applies) ∙ ap (λ (v : Test). v .applies) q ∙ e))
     go false e (inr m) r = r (record { stands = m; applies = l .applies; least = λ v n. l .least v (List·Memᴰ·tail n) })
 
-some-of : (ts : List Test) → ascending ts ≡ true → (t : Test) → List·Memᴰ t ts → t .applies ≡ true
+found-of : (ts : List Test) → ascending ts ≡ true → (t : Test) → List·Memᴰ t ts → t .applies ≡ true
     → (u : Test) × Least ts u
-some-of [] a t m h = absurd (List·Memᴰ·not-nil m)
-some-of (u ∷ us) a t m h = go (u .applies) refl (List·Memᴰ·cases-cons m) (some-of us (rest-ascends u us a) t)
+found-of [] a t m h = absurd (List·Memᴰ·not-nil m)
+found-of (u ∷ us) a t m h = go (u .applies) refl (List·Memᴰ·cases-cons m) (found-of us (rest-ascends u us a) t)
   where
     first : u .applies ≡ true → Least (u ∷ us) u
     first e = record {
@@ -138,7 +138,7 @@ some-of (u ∷ us) a t m h = go (u .applies) refl (List·Memᴰ·cases-cons m) (
     go false e (inr m) r = beyond e (r m h)
 
 pub first-judged : (ts : List Test) → ascending ts ≡ true → Judged ts (firstOf ts)
-first-judged ts a = record { least = least-of ts a; some = some-of ts a; none = none-of ts; zero = zero-of ts }
+first-judged ts a = record { least = least-of ts a; found = found-of ts a; passed = passed-of ts; accepted = accepted-of ts }
 
 judges : (ts : List Test) (n : ℕ) → ascending ts ≡ true → n ≡ firstOf ts → JudgesBy ts n
 judges ts n a e = record { ascends = a; first = e; judged = subst (Judged ts) (sym e) (first-judged ts a) }

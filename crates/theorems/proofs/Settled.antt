@@ -1,5 +1,5 @@
 -- No bound cuts off the marking of parents or a line of ancestors: a larger one gives the same. Assumes nothing.
-use mathlib.Core.Path.{_≡_, refl, sym, ap, _∙_}
+use mathlib.Core.Path.{_≡_, refl, ap, _∙_}
 use mathlib.Core.Bool.{Bool, true, false}
 use mathlib.Core.List.{List, [], _∷_}
 use mathlib.Core.Option.{Option, none, some}
@@ -94,4 +94,5 @@ module _ (s : Scene) where
   -- so many entries suffice
   pub line-settled : (k i : ℕ) → ancestors (suc (nodeCount s + k)) (parentOf s) (some i) ≡ lineOf s i
   line-settled k i =
-      whole-line (suc (nodeCount s)) (suc (nodeCount s + k)) (some i) (λ j e. omega (arith, height-low s j)) (omega arith)
+      whole-line (suc (nodeCount s)) (suc (nodeCount s + k)) (some i) (λ j e. omega (arith, height-low s j))
+      (omega arith)

@@ -2,8 +2,8 @@
 -- one that the table judges first. Definitions only.
 use mathlib.Core.Path.{_≡_}
 use mathlib.Core.Bool.{Bool, true, false, _&&_}
-use mathlib.Core.List.{List, [], _∷_, _++_, List·Memᴰ}
-use Prim.Native.Nat.{ℕ, zero, suc, _≤_}
+use mathlib.Core.List.{List, [], _∷_, List·Memᴰ}
+use Prim.Native.Nat.{ℕ, suc, _≤_}
 use lib.Dec.{eqb, ltb}
 use Rattle.model.specs.Lists.{pick, every}
 use Rattle.model.specs.Refusals.{Refusal, outOfTable, overLimit, noTime, unevenTrack, keysOutOfLine, shortScratch}
@@ -52,9 +52,9 @@ pub record Least (ts : List Test) (t : Test) : Type 0 where
 -- n is the number of the applying refusal of least rank, and 0 exactly where none applies
 pub record Judged (ts : List Test) (n : ℕ) : Type 0 where
   pub least : (t : Test) → Least ts t → n ≡ number (t .refusal)
-  pub some : (t : Test) → List·Memᴰ t ts → t .applies ≡ true → (u : Test) × Least ts u
-  pub none : NoneApplies ts → n ≡ 0
-  pub zero : n ≡ 0 → NoneApplies ts
+  pub found : (t : Test) → List·Memᴰ t ts → t .applies ≡ true → (u : Test) × Least ts u
+  pub passed : NoneApplies ts → n ≡ 0
+  pub accepted : n ≡ 0 → NoneApplies ts
 
 -- a call that judges by a list of tests
 pub record JudgesBy (ts : List Test) (n : ℕ) : Type 0 where
