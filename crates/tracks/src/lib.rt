@@ -9,9 +9,11 @@ pub use layout::centre;
 pub use layout::even_stride;
 pub use layout::factor;
 pub use layout::fits;
+pub use layout::track_stride;
 pub use layout::width;
 pub use numbers::is_scalar;
 pub use numbers::lies_in;
+pub use numbers::number_in;
 pub use numbers::table_number;
 
 pub enum Interpolation {

@@ -27,7 +27,7 @@ module _ {A : Type 0} (f : ℕ → A) (bytes : List ℕ) where
   unfolding readAs
   count = length-tabulate (length bytes / 4) _
 
-  entry : (i : ℕ) (d : A) → i < length bytes / 4 → getD (readAs f bytes) i d ≡ f (wordAt bytes (i * 4))
+  pub entry : (i : ℕ) (d : A) → i < length bytes / 4 → getD (readAs f bytes) i d ≡ f (wordAt bytes (i * 4))
   unfolding readAs
   entry i d h = getD-tabulate (length bytes / 4) _ i d h
 

@@ -2,7 +2,8 @@
 ghost use mathlib.Core.Path.{_≡_};
 ghost use mathlib.Core.List.{_++_};
 ghost use Prim.Native.Nat.{_+_, _≤_, _<_, min};
-ghost use lib.ListN.{length, take, drop};
+ghost use lib.Ieee.{nan};
+ghost use lib.ListN.{length, getD, take, drop};
 ghost use Rattle.model.specs.Written.{Wrote};
 ghost use Rattle.wire.specs.Bytes.{wordAt, wordsIn, floatsIn, wordBytes, WroteAs, WroteBytes};
 
@@ -41,6 +42,16 @@ fn word_at(bytes: &[u8], i: usize) -> u32
     let c = wide(bytes[i + 2]);
     let d = wide(bytes[i + 3]);
     a + b * 256 + c * 65536 + d * 16777216
+}
+
+// Float i, and NaN where there is none.
+pub fn float_at(bytes: &[u8], i: usize) -> f32
+    ensures { λ r. ⌜ r ≡ getD (floatsIn (now (bytes .entry))) i nan ⌝ }
+{
+    if i < bytes.len() / 4 {
+        return float::from_bits(word_at(bytes, i * 4));
+    }
+    0.0 / 0.0
 }
 
 // Writes the bytes of a word from byte i on.
