@@ -1,4 +1,4 @@
-// What a call for the value of a track draws, of a table of floats in bytes: read from the bytes, with no room to decode
+// What a call for the value of a track draws, of a table of floats in bytes, read from the bytes with no room to decode
 // into.
 use refusals::KEYS_OUT_OF_LINE;
 use refusals::NO_TIME;

@@ -19,16 +19,23 @@ module _ {A : Type 0} (f : ℕ → A) (bytes : List ℕ) (at n : ℕ) (inside : 
   byte : (i j : ℕ) → i * 4 + j < n * 4 → getD own (i * 4 + j) 0 ≡ getD bytes ((at + i) * 4 + j) 0
   byte i j h =
       let e : at * 4 + (i * 4 + j) ≡ (at + i) * 4 + j = omega arith in
-      getD-take (n * 4) (drop (at * 4) bytes) (i * 4 + j) 0 h ∙ getD-drop (at * 4) bytes (i * 4 + j) 0 ∙ ap (λ (k : ℕ). getD bytes k 0) e
+      getD-take (n * 4) (drop (at * 4) bytes) (i * 4 + j) 0 h
+      ∙ getD-drop (at * 4) bytes (i * 4 + j) 0
+      ∙ ap (λ (k : ℕ). getD bytes k 0) e
 
   first-byte : (i : ℕ) → i < n → getD own (i * 4) 0 ≡ getD bytes ((at + i) * 4) 0
   first-byte i h =
       let e : at * 4 + i * 4 ≡ (at + i) * 4 = omega arith in
-      getD-take (n * 4) (drop (at * 4) bytes) (i * 4) 0 (omega arith) ∙ getD-drop (at * 4) bytes (i * 4) 0 ∙ ap (λ (k : ℕ). getD bytes k 0) e
+      getD-take (n * 4) (drop (at * 4) bytes) (i * 4) 0 (omega arith)
+      ∙ getD-drop (at * 4) bytes (i * 4) 0
+      ∙ ap (λ (k : ℕ). getD bytes k 0) e
 
   word : (i : ℕ) → i < n → wordAt own (i * 4) ≡ wordAt bytes ((at + i) * 4)
   word i h = λ j.
-      first-byte i h j + byte i 1 (omega arith) j * 256 + byte i 2 (omega arith) j * 65536 + byte i 3 (omega arith) j * 16777216
+      first-byte i h j
+      + byte i 1 (omega arith) j * 256
+      + byte i 2 (omega arith) j * 65536
+      + byte i 3 (omega arith) j * 16777216
 
   pub part-read : readAs f own ≡ part (readAs f bytes) at n
   part-read =

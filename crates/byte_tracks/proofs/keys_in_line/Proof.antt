@@ -29,26 +29,33 @@ loop-holds : tie.Need-loop-holds Inv-loop μ-loop
 loop-holds c =
     let s = c .before .before in
     let bytes = now (s .before .before .args .keys) in
-    let told = c .before .float-at .ensures in (
+    let told = c .before .float-at .ensures in
+    let all = reading.count (ofBits binary32) bytes in (
       refl,
       subst (λ (x : Float). Tested (floatsIn bytes) x (c .is-finite .result) 1) (sym told)
-          (first-key (floatsIn bytes) _ (omega (arith, reading.count (ofBits binary32) bytes, s .if1 .left)) (c .is-finite .ensures ∙ ap finite told)),
+          (first-key (floatsIn bytes) _ (omega (arith, all, s .if1 .left)) (c .is-finite .ensures ∙ ap finite told)),
     )
 
 loop-again : tie.Need-loop-again Inv-loop μ-loop
 loop-again c =
     let l = c .before .before in
-    let bytes = now (l .before .before .before .before .before .args .keys) in (
-      l .loop .inv .0,
-      subst (λ (x : Float). Tested (floatsIn bytes) x (l .loop .rising && lt (l .loop .last) x) (l .loop .i + 1)) (sym (c .float-at2 .ensures))
-          (next-key (floatsIn bytes) (l .loop .last) (l .loop .rising) (l .loop .i) (l .loop .inv .1) (omega (arith, reading.count (ofBits binary32) bytes, c .before .loop-test .taken, l .loop .inv .0))),
+    let bytes = now (l .before .before .before .before .before .args .keys) in
+    let floats = floatsIn bytes in
+    let o = l .loop in
+    let all = reading.count (ofBits binary32) bytes in (
+      o .inv .0,
+      subst (λ (x : Float). Tested floats x (o .rising && lt (o .last) x) (o .i + 1)) (sym (c .float-at2 .ensures))
+          (next-key floats (o .last) (o .rising) (o .i) (o .inv .1) (omega (arith, all, c .before .loop-test .taken, o .inv .0))),
     )
 
 returns-2 : tie.Need-returns-2 Inv-loop μ-loop
 returns-2 c =
     let l = c .before .before in
     let bytes = now (l .before .before .before .before .before .args .keys) in
-    last-key (floatsIn bytes) (l .loop .last) (l .loop .rising) (l .loop .i) (l .loop .inv .1) _ (omega (arith, reading.count (ofBits binary32) bytes, c .before .loop-test .left, l .loop .inv .0)) (c .is-finite2 .ensures)
+    let o = l .loop in
+    let all = reading.count (ofBits binary32) bytes in
+    last-key (floatsIn bytes) (o .last) (o .rising) (o .i) (o .inv .1) _
+    (omega (arith, all, c .before .loop-test .left, o .inv .0)) (c .is-finite2 .ensures)
 
 pub keys-in-line-spec : {M : Type 1} → statement M
 keys-in-line-spec =

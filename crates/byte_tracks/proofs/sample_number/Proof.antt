@@ -24,8 +24,11 @@ use Rattle.byte_tracks.proofs.sample_number.Statement.{statement}
 use Rattle.byte_tracks.proofs.sample_number.Tie as tie
 
 -- an even track that is not over size has room for its weights
-roomy : (floats : List Float) (t : Track) (time : Float) → tableNumber floats t ≡ 0 → even (trackIn floats t) ≡ true → shortFor (trackIn floats t) time weightLimit ≡ false
-roomy floats t time z e = let tr = trackIn floats t in go (ltb keyLimit (length (tr .keys))) (isScalars (tr .kind)) (even tr) (ltb weightLimit (stride tr)) (clear floats t z .within) e
+roomy : (floats : List Float) (t : Track) (time : Float) → tableNumber floats t ≡ 0 → even (trackIn floats t) ≡ true
+    → shortFor (trackIn floats t) time weightLimit ≡ false
+roomy floats t time z e =
+    let tr = trackIn floats t in
+    go (ltb keyLimit (length (tr .keys))) (isScalars (tr .kind)) (even tr) (ltb weightLimit (stride tr)) (clear floats t z .within) e
   where
     go : (p s e l : Bool) → (p || (s && e && l)) ≡ false → e ≡ true → (s && l) ≡ false
     go true s e l h q = absurd (true≢false h)
@@ -34,14 +37,18 @@ roomy floats t time z e = let tr = trackIn floats t in go (ltb keyLimit (length 
     go false false e l h q = refl
 
 -- what the table draws
-told : (c : tie.After-number-in) → let a = c .before .before .args in c .number-in .result ≡ tableNumber (floatsIn (now (a .table))) (a .t)
-told c = let a = c .before .before .args in c .number-in .ensures (floatsIn (now (a .table))) (reading.count (ofBits binary32) (now (a .table)))
+told : (c : tie.After-number-in)
+    → let a = c .before .before .args in c .number-in .result ≡ tableNumber (floatsIn (now (a .table))) (a .t)
+told c =
+    let table = now (c .before .before .args .table) in
+    c .number-in .ensures (floatsIn table) (reading.count (ofBits binary32) table)
 
 none : (c : tie.Else1) → let a = c .before .before .before .args in tableNumber (floatsIn (now (a .table))) (a .t) ≡ 0
 none c = sym (told (c .before)) ∙ c .if1 .left
 
 stride-told : (c : tie.After-track-stride)
-    → let a = c .before .before .before .before .before .before .args in c .track-stride .result ≡ strideIn (trackIn (floatsIn (now (a .table))) (a .t))
+    → let a = c .before .before .before .before .before .before .args in
+    c .track-stride .result ≡ strideIn (trackIn (floatsIn (now (a .table))) (a .t))
 stride-told c =
     let d = c .before .before .before in
     let a = d .before .before .before .args in
@@ -51,13 +58,17 @@ stride-told c =
 returns : tie.Need-returns
 returns c =
     let a = c .before .before .before .args in
-    told (c .before) ∙ sym (sample-drawn (trackIn (floatsIn (now (a .table))) (a .t)) (a .time) weightLimit _ (omega (arith, told (c .before), c .if1 .taken)))
+    let tr = trackIn (floatsIn (now (a .table))) (a .t) in
+    let e = told (c .before) in
+    e ∙ sym (sample-drawn tr (a .time) weightLimit _ (omega (arith, e, c .if1 .taken)))
 
 returns-2 : tie.Need-returns-2
 returns-2 c =
     let d = c .before .before in
     let a = d .before .before .before .args in
-    sym (sample-tests (trackIn (floatsIn (now (a .table))) (a .t)) (a .time) weightLimit _ true _ _ _ (none d) (sym (c .before .is-nan .ensures) ∙ c .if2 .taken) refl refl refl)
+    let tr = trackIn (floatsIn (now (a .table))) (a .t) in
+    sym (sample-tests tr (a .time) weightLimit _ true _ _ _ (none d) (sym (c .before .is-nan .ensures) ∙ c .if2 .taken)
+    refl refl refl)
 
 track-stride-requires : tie.Need-track-stride-requires
 track-stride-requires c κs =
@@ -71,7 +82,8 @@ returns-3 c =
     let d = n .before .before in
     let a = d .before .before .before .args in
     let tr = trackIn (floatsIn (now (a .table))) (a .t) in
-    sym (sample-tests tr (a .time) weightLimit _ false false _ _ (none d) (sym (n .before .is-nan .ensures) ∙ n .if2 .left)
+    sym (sample-tests tr (a .time) weightLimit _ false false _ _ (none d)
+    (sym (n .before .is-nan .ensures) ∙ n .if2 .left)
     (no-stride tr (sym (stride-told (c .before)) ∙ c .if3 .taken)) refl refl)
 
 keys-of-requires : tie.Need-keys-of-requires
@@ -80,7 +92,8 @@ keys-of-requires c κs = none (c .before .before .before .before)
 -- the last test
 last : (c : tie.After-keys-in-line) (l : Bool) → c .keys-in-line .result ≡ l
     → let a = c .before .before .before .before .before .before .before .before .before .args in
-    pick (not l) 5 0 ≡ sampleNumber (tableNumber (floatsIn (now (a .table))) (a .t)) (trackIn (floatsIn (now (a .table))) (a .t)) (a .time) weightLimit
+    let floats = floatsIn (now (a .table)) in
+    pick (not l) 5 0 ≡ sampleNumber (tableNumber floats (a .t)) (trackIn floats (a .t)) (a .time) weightLimit
 last c l e =
     let s = c .before .before in
     let n = s .before .before in
@@ -89,8 +102,9 @@ last c l e =
     let floats = floatsIn (now (a .table)) in
     let tr = trackIn floats (a .t) in
     let is-even = some-stride tr _ (stride-told (s .before)) (s .if3 .left) in
-    sym (sample-tests tr (a .time) weightLimit _ false true l false (none d) (sym (n .before .is-nan .ensures) ∙ n .if2 .left) is-even
-    (ap inLine (sym (c .before .keys-of .ensures)) ∙ sym (c .keys-in-line .ensures) ∙ e) (roomy floats (a .t) (a .time) (none d) is-even))
+    let line = ap inLine (sym (c .before .keys-of .ensures)) ∙ sym (c .keys-in-line .ensures) ∙ e in
+    sym (sample-tests tr (a .time) weightLimit _ false true l false (none d)
+    (sym (n .before .is-nan .ensures) ∙ n .if2 .left) is-even line (roomy floats (a .t) (a .time) (none d) is-even))
 
 returns-4 : tie.Need-returns-4
 returns-4 c = last (c .before) false (not-true _ (c .if4 .taken))

@@ -22,7 +22,8 @@ returns-2 : tie.Need-returns-2
 unfolding div ofBits
 returns-2 c =
     let a = c .before .before .args in
-    sym (List·getD-eq-default (floatsIn (now (a .bytes))) nan {n = a .i} (omega (arith, count (ofBits binary32) (now (a .bytes)), c .if1 .left)))
+    let past = count (ofBits binary32) (now (a .bytes)) in
+    sym (List·getD-eq-default (floatsIn (now (a .bytes))) nan {n = a .i} (omega (arith, past, c .if1 .left)))
 
 pub float-at-spec : {M : Type 1} → statement M
 float-at-spec = tie.close (tie.spec (λ c. search needs) (λ c κs. search needs) (λ c κs. search needs) returns returns-2)

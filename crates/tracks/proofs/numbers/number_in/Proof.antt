@@ -18,8 +18,11 @@ use Rattle.tracks.proofs.numbers.number_in.Tie as tie
 
 -- what `lies_in` told, of a table of that length
 told : (c : tie.After-lies-in) (floats : List Float)
-    → let a = c .before .args in length floats ≡ a .len → (keysFit (length floats) (a .t) && valuesFit (length floats) (a .t)) ≡ c .lies-in .result
-told c floats e = let t = c .before .args .t in ap (λ (n : ℕ). keysFit n t && valuesFit n t) e ∙ sym (c .lies-in .ensures)
+    → let a = c .before .args in
+    length floats ≡ a .len → (keysFit (length floats) (a .t) && valuesFit (length floats) (a .t)) ≡ c .lies-in .result
+told c floats e =
+    let t = c .before .args .t in
+    ap (λ (n : ℕ). keysFit n t && valuesFit n t) e ∙ sym (c .lies-in .ensures)
 
 returns : tie.Need-returns
 returns c floats e =
@@ -29,22 +32,27 @@ returns c floats e =
 -- what `weights_over` told, in the track's own numbers
 over : (c : tie.After-weights-over)
     → let t = c .before .before .before .before .before .before .before .args .t in
-    (isScalars (kindOf (t .kind)) && ltb weightLimit (evenStride (t .keys .count) (t .values .count) (factor (interpolationOf (t .interpolation))))) ≡ c .weights-over .result
+    (isScalars (kindOf (t .kind))
+    && ltb weightLimit (evenStride (t .keys .count) (t .values .count) (factor (interpolationOf (t .interpolation)))))
+    ≡ c .weights-over .result
 over c =
     let t = c .before .before .before .before .before .before .before .args .t in
-    ap (λ (n : ℕ). isScalars (kindOf (t .kind)) && ltb weightLimit n) (sym (c .before .track-stride .ensures)) ∙ sym (c .weights-over .ensures)
+    ap (λ (n : ℕ). isScalars (kindOf (t .kind)) && ltb weightLimit n) (sym (c .before .track-stride .ensures))
+    ∙ sym (c .weights-over .ensures)
 
 returns-2 : tie.Need-returns-2
 returns-2 c floats e =
     let l = c .before .before .before in
     let s = l .before .before .before in
-    drawn-weights floats (s .before .before .args .t) (told (s .before) floats e ∙ s .if1 .taken) _ (l .if2 .left) (over (c .before) ∙ c .if3 .taken)
+    drawn-weights floats (s .before .before .args .t) (told (s .before) floats e ∙ s .if1 .taken) _ (l .if2 .left)
+    (over (c .before) ∙ c .if3 .taken)
 
 returns-3 : tie.Need-returns-3
 returns-3 c floats e =
     let l = c .before .before .before in
     let s = l .before .before .before in
-    drawn-weights floats (s .before .before .args .t) (told (s .before) floats e ∙ s .if1 .taken) _ (l .if2 .left) (over (c .before) ∙ c .if3 .left)
+    drawn-weights floats (s .before .before .args .t) (told (s .before) floats e ∙ s .if1 .taken) _ (l .if2 .left)
+    (over (c .before) ∙ c .if3 .left)
 
 returns-4 : tie.Need-returns-4
 returns-4 c floats e = drawn-out floats (c .before .before .args .t) (told (c .before) floats e ∙ c .if1 .left)
