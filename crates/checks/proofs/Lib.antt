@@ -1,2 +1,3 @@
 pub mod Lowest
+pub mod Counted
 pub mod Clearing

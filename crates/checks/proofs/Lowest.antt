@@ -1,11 +1,14 @@
 -- The lowest of drawn numbers, and sums, number by number. Assumes nothing.
 use mathlib.Core.Path.{_≡_, refl, sym, ap, _∙_}
+use mathlib.Core.Bool.{Bool, true, false}
 use Prim.Native.Nat.{ℕ, zero, suc, _+_, _≤_, _<_, min}
 use native.Mathlib.Numerals.{add-one}
 use native.Mathlib.Omega.{arith}
-use borrow.Author.Tests.{lt-ltb, le-ltb}
+use borrow.Author.Tests.{lt-ltb, le-ltb, leb-true, leb-false, le-leb, lt-leb}
+use lib.Dec.{leb}
 use Rattle.model.specs.Lists.{pick}
-use Rattle.checks.specs.Drawn.{entryCap, lowerOf, lowestBelow, sumBelow}
+use Rattle.model.specs.Limits.{childEntryLimit}
+use Rattle.checks.specs.Drawn.{drawn, entryCap, lowerOf, lowestBelow, sumBelow, entriesNumber}
 
 -- ---- the lower of two
 pub first-none : (a b : ℕ) → a ≡ 0 → b ≡ lowerOf a b
@@ -45,3 +48,16 @@ module _ (f : ℕ → ℕ) where
   pub sum-more : (i a r b : ℕ) → a ≡ min (sumBelow i f) entryCap → r ≡ f i → b ≡ min (a + r) entryCap → b ≡ min (sumBelow (i + 1) f) entryCap
   unfolding sumBelow
   sum-more i a r b e g h = let s : b ≡ min (sumBelow (suc i) f) entryCap = omega arith in s ∙ ap (λ (n : ℕ). min (sumBelow n f) entryCap) (sym (add-one i))
+
+-- ---- child entries
+-- the capped sum is over its limit where the sum is
+pub capped-number : (sum : ℕ) → entriesNumber (min sum entryCap) ≡ entriesNumber sum
+capped-number sum = go (leb sum childEntryLimit) refl
+  where
+    go : (b : Bool) → leb sum childEntryLimit ≡ b → entriesNumber (min sum entryCap) ≡ entriesNumber sum
+    go true e =
+        let h = leb-true sum childEntryLimit e in
+        ap (drawn true) (le-leb (min sum entryCap) childEntryLimit (omega arith) ∙ sym e)
+    go false e =
+        let h = leb-false sum childEntryLimit e in
+        ap (drawn true) (lt-leb (min sum entryCap) childEntryLimit (omega arith) ∙ sym e)

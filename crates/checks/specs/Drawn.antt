@@ -1,5 +1,6 @@
 -- What the tables of a lent scene draw: 1, 2, or 0 for neither, over all that is lent, used or not (docs/TABLES.md; scope, "Numbers when a piece
 -- is turned down"). The lowest number that applies is drawn. Definitions only.
+use mathlib.Core.Path.{_≡_}
 use mathlib.Core.Bool.{Bool, true}
 use mathlib.Core.List.{List}
 use Prim.Native.Nat.{ℕ, zero, suc, _+_, min}
@@ -82,6 +83,12 @@ rowNumber words floats s t table.InBetweens i = inBetweenNumber words s t i
 rowNumber words floats s t table.Skins i = skinNumber words t i
 rowNumber words floats s t table.Skeletons i = skeletonNumber words s t i
 
+-- ---- floats by their count
+
+-- a number that is told of any floats that are as many as the sizes say
+abbrev pub ByCount : Sizes → ℕ → (List Float → ℕ) → Type 0
+ByCount s r f = (floats : List Float) → length floats ≡ s .floats → r ≡ f floats
+
 -- ---- a table
 
 abbrev pub tableOf : Header → Table → Part
@@ -139,8 +146,11 @@ childCount words nodes i = nodeRow words nodes i .children .count
 abbrev pub cappedEntries : List ℕ → Part → ℕ
 cappedEntries words nodes = min (sumBelow (nodes .count) (childCount words nodes)) entryCap
 
+abbrev pub entriesNumber : ℕ → ℕ
+entriesNumber entries = drawn true (leb entries childEntryLimit)
+
 unfoldable pub childrenNumber : List ℕ → Part → ℕ
-childrenNumber words nodes = drawn true (leb (sumBelow (nodes .count) (childCount words nodes)) childEntryLimit)
+childrenNumber words nodes = entriesNumber (sumBelow (nodes .count) (childCount words nodes))
 
 -- ---- all that is lent
 
@@ -150,16 +160,19 @@ listedNumber words floats s h =
     lowerOf (n table.Channels) (lowerOf (n table.Meshes) (lowerOf (n table.Primitives) (lowerOf (n table.Targets)
     (lowerOf (n table.InBetweens) (lowerOf (n table.Skins) (n table.Skeletons))))))
 
-abbrev pub sizesOf : Lent → Sizes
-sizesOf l = record {
-  words = length (l .words);
-  floats = length (l .floats);
-  «node_weights» = length (l .nodeWeights);
-  «mesh_weights» = length (l .meshWeights);
-  primitives = l .header .meshes .primitives .count;
-  targets = l .header .meshes .targets .count;
-  «in_betweens» = l .header .meshes .«in_betweens» .count;
+abbrev pub sizesFor : ℕ → ℕ → ℕ → ℕ → Header → Sizes
+sizesFor words floats nodeWeights meshWeights h = record {
+  words = words;
+  floats = floats;
+  «node_weights» = nodeWeights;
+  «mesh_weights» = meshWeights;
+  primitives = h .meshes .primitives .count;
+  targets = h .meshes .targets .count;
+  «in_betweens» = h .meshes .«in_betweens» .count;
 }
+
+abbrev pub sizesOf : Lent → Sizes
+sizesOf l = sizesFor (length (l .words)) (length (l .floats)) (length (l .nodeWeights)) (length (l .meshWeights)) (l .header)
 
 abbrev pub lentAs : List ℕ → List Float → List Float → List Float → Header → Lent
 lentAs words floats nodeWeights meshWeights h =

@@ -3,8 +3,17 @@
 mod numbers;
 mod records;
 
+pub use numbers::capped;
 pub use numbers::child_entries;
+pub use numbers::entries_number;
+pub use numbers::record_words;
+pub use numbers::roots_number;
+pub use numbers::sizes_for;
+pub use numbers::table_number;
 pub use numbers::tables_number;
+pub use records::lower;
+pub use records::row_number;
+pub use records::table_of;
 
 // The tables of records.
 pub enum Table {

@@ -7,7 +7,6 @@ use refusals::CHANNEL_LIMIT;
 use refusals::CHILD_ENTRY_LIMIT;
 use refusals::NODE_LIMIT;
 use refusals::OUT_OF_TABLE;
-use refusals::OVER_LIMIT;
 use refusals::ROOT_LIMIT;
 use row_checks::Sizes;
 use tables::Header;
@@ -15,10 +14,10 @@ use tracks::Part;
 ghost use mathlib.Core.Path.{_≡_};
 ghost use Prim.Native.Nat.{_+_, min};
 ghost use lib.ListN.{length};
-ghost use Rattle.checks.specs.Drawn.{recordWords, countWithin, tableNumber, wholeNumber, childrenNumber, rootsNumber, listedNumber, tablesNumber, sceneLent, entryCap, cappedEntries};
+ghost use Rattle.checks.specs.Drawn.{ByCount, recordWords, countWithin, tableNumber, wholeNumber, entriesNumber, childrenNumber, rootsNumber, listedNumber, sizesFor, tablesNumber, sceneLent, entryCap, cappedEntries};
 
 // The words of a record.
-fn record_words(k: Table) -> usize
+pub fn record_words(k: Table) -> usize
     ensures { λ r. ⌜ r ≡ recordWords k ⌝ }
 {
     match k {
@@ -49,7 +48,7 @@ fn count_within(k: Table, count: usize) -> bool
 }
 
 // What a table draws by its place and its count alone.
-fn table_number(len: usize, t: Part, k: Table) -> u32
+pub fn table_number(len: usize, t: Part, k: Table) -> u32
     ensures { λ r. ⌜ r ≡ tableNumber len t k ⌝ }
 {
     drawn(
@@ -59,22 +58,22 @@ fn table_number(len: usize, t: Part, k: Table) -> u32
 }
 
 // What a table with its records draws. Records are looked at only where the table has them.
-fn whole_number(words: &[u32], floats: &[f32], s: Sizes, h: Header, k: Table) -> u32
-    ensures { λ r. ⌜ r ≡ wholeNumber (now (words .entry)) (now (floats .entry)) s h k ⌝ }
+fn whole_number(words: &[u32], s: Sizes, h: Header, k: Table) -> u32
+    ensures { λ r. ⌜ ByCount s r (λ floats. wholeNumber (now (words .entry)) floats s h k) ⌝ }
 {
     let t = table_of(h, k);
     let number = table_number(words.len(), t, k);
     if number == OUT_OF_TABLE {
         return OUT_OF_TABLE;
     }
-    lower(number, rows_number(words, floats, s, t, k))
+    lower(number, rows_number(words, s, t, k))
 }
 
 // One above the limit of child entries, which tells that it is passed.
 const ENTRY_CAP: usize = 8193;
 
 // A sum with a count more, as far as the cap.
-fn capped(sum: usize, count: usize) -> usize
+pub fn capped(sum: usize, count: usize) -> usize
     ensures { λ r. ⌜ r ≡ min (sum + count) entryCap ⌝ }
 {
     if sum < ENTRY_CAP {
@@ -101,16 +100,20 @@ pub fn child_entries(words: &[u32], nodes: Part) -> usize
     sum
 }
 
+// What so many child entries draw.
+pub fn entries_number(entries: usize) -> u32
+    ensures { λ r. ⌜ r ≡ entriesNumber entries ⌝ }
+{
+    drawn(true, entries <= CHILD_ENTRY_LIMIT)
+}
+
 fn children_number(words: &[u32], nodes: Part) -> u32
     ensures { λ r. ⌜ r ≡ childrenNumber (now (words .entry)) nodes ⌝ }
 {
-    if child_entries(words, nodes) <= CHILD_ENTRY_LIMIT {
-        return 0;
-    }
-    OVER_LIMIT
+    entries_number(child_entries(words, nodes))
 }
 
-fn roots_number(len: usize, roots: Part) -> u32
+pub fn roots_number(len: usize, roots: Part) -> u32
     ensures { λ r. ⌜ r ≡ rootsNumber len roots ⌝ }
 {
     let count = roots.count;
@@ -118,19 +121,38 @@ fn roots_number(len: usize, roots: Part) -> u32
 }
 
 // What all tables but the nodes draw.
-fn listed_number(words: &[u32], floats: &[f32], s: Sizes, h: Header) -> u32
-    ensures { λ r. ⌜ r ≡ listedNumber (now (words .entry)) (now (floats .entry)) s h ⌝ }
+fn listed_number(words: &[u32], s: Sizes, h: Header) -> u32
+    ensures { λ r. ⌜ ByCount s r (λ floats. listedNumber (now (words .entry)) floats s h) ⌝ }
 {
-    let skeletons = whole_number(words, floats, s, h, Table::Skeletons);
-    let skins = lower(whole_number(words, floats, s, h, Table::Skins), skeletons);
-    let between = lower(whole_number(words, floats, s, h, Table::InBetweens), skins);
-    let targets = lower(whole_number(words, floats, s, h, Table::Targets), between);
-    let shapes = lower(
-        whole_number(words, floats, s, h, Table::Primitives),
-        targets,
-    );
-    let meshes = lower(whole_number(words, floats, s, h, Table::Meshes), shapes);
-    lower(whole_number(words, floats, s, h, Table::Channels), meshes)
+    let skeletons = whole_number(words, s, h, Table::Skeletons);
+    let skins = lower(whole_number(words, s, h, Table::Skins), skeletons);
+    let between = lower(whole_number(words, s, h, Table::InBetweens), skins);
+    let targets = lower(whole_number(words, s, h, Table::Targets), between);
+    let shapes = lower(whole_number(words, s, h, Table::Primitives), targets);
+    let meshes = lower(whole_number(words, s, h, Table::Meshes), shapes);
+    lower(whole_number(words, s, h, Table::Channels), meshes)
+}
+
+// The lengths of all slices, and of the tables whose records are listed.
+pub fn sizes_for(
+    words: usize,
+    floats: usize,
+    node_weights: usize,
+    mesh_weights: usize,
+    h: Header,
+) -> Sizes
+    ensures { λ r. ⌜ r ≡ sizesFor words floats «node_weights» «mesh_weights» h ⌝ }
+{
+    let meshes = h.meshes;
+    Sizes {
+        words,
+        floats,
+        node_weights,
+        mesh_weights,
+        primitives: meshes.primitives.count,
+        targets: meshes.targets.count,
+        in_betweens: meshes.in_betweens.count,
+    }
 }
 
 // The number of the tables: the lowest that applies to anything that is lent.
@@ -144,22 +166,19 @@ pub fn tables_number(
     ensures { λ r. ⌜ r ≡ tablesNumber (sceneLent words floats «node_weights» «mesh_weights» h) ⌝ }
 {
     let graph = h.graph;
-    let meshes = h.meshes;
-    let s = Sizes {
-        words: words.len(),
-        floats: floats.len(),
-        node_weights: node_weights.len(),
-        mesh_weights: mesh_weights.len(),
-        primitives: meshes.primitives.count,
-        targets: meshes.targets.count,
-        in_betweens: meshes.in_betweens.count,
-    };
-    let nodes = whole_number(words, floats, s, h, Table::Nodes);
+    let s = sizes_for(
+        words.len(),
+        floats.len(),
+        node_weights.len(),
+        mesh_weights.len(),
+        h,
+    );
+    let nodes = whole_number(words, s, h, Table::Nodes);
     if nodes == OUT_OF_TABLE {
         return OUT_OF_TABLE;
     }
     let children = children_number(words, graph.nodes);
     let roots = roots_number(words.len(), graph.roots);
-    let listed = listed_number(words, floats, s, h);
+    let listed = listed_number(words, s, h);
     lower(nodes, lower(children, lower(roots, listed)))
 }

@@ -20,7 +20,7 @@ use row_checks::target_within;
 use tables::Header;
 use tracks::Part;
 ghost use mathlib.Core.Path.{_≡_};
-ghost use Rattle.checks.specs.Drawn.{drawn, lowerOf, lowestBelow, tableOf, nodeNumber, channelNumber, meshNumber, primitiveNumber, targetNumber, inBetweenNumber, skinNumber, skeletonNumber, rowNumber};
+ghost use Rattle.checks.specs.Drawn.{ByCount, drawn, lowerOf, lowestBelow, tableOf, nodeNumber, channelNumber, meshNumber, primitiveNumber, targetNumber, inBetweenNumber, skinNumber, skeletonNumber, rowNumber};
 
 pub(crate) fn drawn(fits: bool, within: bool) -> u32
     ensures { λ r. ⌜ r ≡ drawn fits within ⌝ }
@@ -35,7 +35,7 @@ pub(crate) fn drawn(fits: bool, within: bool) -> u32
 }
 
 // The lower of two numbers, 0 being none.
-pub(crate) fn lower(a: u32, b: u32) -> u32
+pub fn lower(a: u32, b: u32) -> u32
     ensures { λ r. ⌜ r ≡ lowerOf a b ⌝ }
 {
     if a == 0 {
@@ -47,7 +47,7 @@ pub(crate) fn lower(a: u32, b: u32) -> u32
     if a < b { a } else { b }
 }
 
-pub(crate) fn table_of(h: Header, k: Table) -> Part
+pub fn table_of(h: Header, k: Table) -> Part
     ensures { λ r. ⌜ r ≡ tableOf h k ⌝ }
 {
     let graph = h.graph;
@@ -72,12 +72,12 @@ fn node_number(words: &[u32], s: Sizes, t: Part, i: usize) -> u32
     drawn(node_fits(s, row), node_within(row))
 }
 
-fn channel_number(words: &[u32], floats: &[f32], t: Part, i: usize) -> u32
-    ensures { λ r. ⌜ r ≡ channelNumber (now (words .entry)) (now (floats .entry)) t i ⌝ }
+fn channel_number(words: &[u32], s: Sizes, t: Part, i: usize) -> u32
+    ensures { λ r. ⌜ ByCount s r (λ floats. channelNumber (now (words .entry)) floats t i) ⌝ }
 {
     let row = tables::channel_row(words, t, i);
     lower(
-        tracks::table_number(floats, tables::track_of(row)),
+        tracks::number_in(s.floats, tables::track_of(row)),
         drawn(true, tags_known(row)),
     )
 }
@@ -124,12 +124,12 @@ fn skeleton_number(words: &[u32], s: Sizes, t: Part, i: usize) -> u32
 }
 
 // What record i of a table draws.
-fn row_number(words: &[u32], floats: &[f32], s: Sizes, t: Part, k: Table, i: usize) -> u32
-    ensures { λ r. ⌜ r ≡ rowNumber (now (words .entry)) (now (floats .entry)) s t k i ⌝ }
+pub fn row_number(words: &[u32], s: Sizes, t: Part, k: Table, i: usize) -> u32
+    ensures { λ r. ⌜ ByCount s r (λ floats. rowNumber (now (words .entry)) floats s t k i) ⌝ }
 {
     match k {
         Table::Nodes => node_number(words, s, t, i),
-        Table::Channels => channel_number(words, floats, t, i),
+        Table::Channels => channel_number(words, s, t, i),
         Table::Meshes => mesh_number(words, s, t, i),
         Table::Primitives => primitive_number(words, s, t, i),
         Table::Targets => target_number(words, s, t, i),
@@ -140,14 +140,14 @@ fn row_number(words: &[u32], floats: &[f32], s: Sizes, t: Part, k: Table, i: usi
 }
 
 // The lowest number that a record of a table draws.
-pub(crate) fn rows_number(words: &[u32], floats: &[f32], s: Sizes, t: Part, k: Table) -> u32
-    ensures { λ r. ⌜ r ≡ lowestBelow (t .count) (rowNumber (now (words .entry)) (now (floats .entry)) s t k) ⌝ }
+pub(crate) fn rows_number(words: &[u32], s: Sizes, t: Part, k: Table) -> u32
+    ensures { λ r. ⌜ ByCount s r (λ floats. lowestBelow (t .count) (rowNumber (now (words .entry)) floats s t k)) ⌝ }
 {
     let count = t.count;
     let mut number: u32 = 0;
     let mut i: usize = 0;
     while i < count {
-        number = lower(number, row_number(words, floats, s, t, k, i));
+        number = lower(number, row_number(words, s, t, k, i));
         i += 1;
     }
     number

@@ -15,6 +15,7 @@ pub use readers::is_marked;
 pub use readers::property_of;
 pub use readers::track_of;
 pub use readers::weight_of;
+pub use rows::alone;
 pub use rows::channel_row;
 pub use rows::in_between_row;
 pub use rows::mesh_row;

@@ -39,7 +39,7 @@ fn whole(words: &[u32], t: Part, stride: usize, i: usize) -> &[u32]
 }
 
 // The table of a record that stands alone.
-fn alone() -> Part
+pub fn alone() -> Part
     ensures { λ r. ⌜ r ≡ alone ⌝ }
 {
     Part { at: 0, count: 1 }

@@ -12,19 +12,19 @@ use Rattle.checks.proofs.numbers.whole_number.Tie as tie
 
 returns : tie.Need-returns
 unfolding wholeNumber
-returns c =
-    let a = c .before .before .before .before .before .args in
+returns c floats e =
+    let a = c .before .before .before .before .args in
     one-first _ _
     (sym (c .before .table-number .ensures ∙ ap (λ (t : Part). tableNumber (length (now (a .words))) t (a .k)) (c .before .before .table-of .ensures)) ∙ c .if1 .taken)
 
 returns-2 : tie.Need-returns-2
 unfolding wholeNumber
-returns-2 c =
-    let a = c .before .before .before .before .before .before .before .args in
+returns-2 c floats e =
+    let a = c .before .before .before .before .before .before .args in
     let t = c .before .before .before .before .table-of .ensures in
     c .lower .ensures
-    ∙ (λ j. lowerOf ((c .before .before .before .table-number .ensures) j) ((c .before .rows-number .ensures) j))
-    ∙ (λ j. lowerOf (tableNumber (length (now (a .words))) (t j) (a .k)) (lowestBelow (t j .count) (rowNumber (now (a .words)) (now (a .floats)) (a .s) (t j) (a .k))))
+    ∙ (λ j. lowerOf ((c .before .before .before .table-number .ensures) j) ((c .before .rows-number .ensures floats e) j))
+    ∙ (λ j. lowerOf (tableNumber (length (now (a .words))) (t j) (a .k)) (lowestBelow (t j .count) (rowNumber (now (a .words)) floats (a .s) (t j) (a .k))))
 
 pub whole-number-spec : {M : Type 1} → statement M
 whole-number-spec =

@@ -5,33 +5,34 @@ use borrow.Author.Needs.{needs}
 use denote.Ref.{now}
 use native.Mathlib.Omega.{arith}
 use Rattle.checks.proofs.Lowest.{lowest-more}
-use Rattle.checks.specs.Drawn.{lowestBelow, rowNumber}
+use Rattle.checks.specs.Drawn.{ByCount, lowestBelow, rowNumber}
 use Rattle.checks.proofs.records.rows_number.Statement.{statement}
 use Rattle.checks.proofs.records.rows_number.Tie as tie
 
 abbrev Inv-loop : tie.InvT-loop
-Inv-loop words floats s t k count number₀ i₀ number i = (count ≡ t .count) × (i ≤ count) × (number ≡ lowestBelow i (rowNumber words floats s t k))
+Inv-loop words s t k count number₀ i₀ number i =
+    (count ≡ t .count) × (i ≤ count) × ByCount s number (λ floats. lowestBelow i (rowNumber words floats s t k))
 
 abbrev μ-loop : tie.MeasureT-loop
-μ-loop words floats s t k count number₀ i₀ number i = count - i
+μ-loop words s t k count number₀ i₀ number i = count - i
 
 loop-holds : tie.Need-loop-holds Inv-loop μ-loop
 unfolding lowestBelow
-loop-holds c = (refl, search needs, refl)
+loop-holds c = (refl, search needs, λ floats e. refl)
 
 loop-again : tie.Need-loop-again Inv-loop μ-loop
 loop-again c = (
   refl,
   omega arith,
-  lowest-more _ _ _ _ _ (c .before .before .before .loop .inv .2) (c .before .row-number .ensures) (c .lower .ensures),
+  λ floats e. lowest-more _ _ _ _ _ (c .before .before .before .loop .inv .2 floats e) (c .before .row-number .ensures floats e) (c .lower .ensures),
 )
 
 returns : tie.Need-returns Inv-loop μ-loop
-returns c =
+returns c floats e =
     let l = c .before .loop in
-    let a = c .before .before .before .before .args in
-    let e : l .i ≡ a .t .count = omega (arith, l .inv .0, l .inv .1, c .loop-test .left) in
-    l .inv .2 ∙ ap (λ (n : ℕ). lowestBelow n (rowNumber (now (a .words)) (now (a .floats)) (a .s) (a .t) (a .k))) e
+    let a = c .before .before .before .args in
+    let all : l .i ≡ a .t .count = omega (arith, l .inv .0, l .inv .1, c .loop-test .left) in
+    l .inv .2 floats e ∙ ap (λ (n : ℕ). lowestBelow n (rowNumber (now (a .words)) floats (a .s) (a .t) (a .k))) all
 
 pub rows-number-spec : {M : Type 1} → statement M
 rows-number-spec =
