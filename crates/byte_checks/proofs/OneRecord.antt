@@ -56,26 +56,30 @@ module _ (bytes : List ℕ) (t : Part) (k : Table) (i : ℕ) where
         let more : (i + 1) * stride ≤ t .count * stride = mul-le-mul next (le-refl stride) in
         omega (arith, fits, more, add-mul i 1 stride)
 
-    pub words-of : wordsIn (part bytes ((t .at + i * stride) * 4) (stride * 4)) ≡ part (wordsIn bytes) (t .at + i * recordWords k) (recordWords k)
+    pub words-of : wordsIn (part bytes ((t .at + i * stride) * 4) (stride * 4))
+        ≡ part (wordsIn bytes) (t .at + i * recordWords k) (recordWords k)
     words-of =
         part-read (λ w. w) bytes (t .at + i * stride) stride inside
         ∙ ap (λ (w : ℕ). part (wordsIn bytes) (t .at + i * w) w) e
 
   -- its words in a local array
-  pub decoded : (own row : List ℕ) (n : ℕ) → wordsIn own ≡ part (wordsIn bytes) (t .at + i * recordWords k) (recordWords k)
-      → Wrote (wordsIn own) (replicate 16 0) row n → take n row ≡ part (wordsIn bytes) (t .at + i * recordWords k) (recordWords k)
+  pub decoded : (own row : List ℕ) (n : ℕ)
+      → wordsIn own ≡ part (wordsIn bytes) (t .at + i * recordWords k) (recordWords k)
+      → Wrote (wordsIn own) (replicate 16 0) row n
+      → take n row ≡ part (wordsIn bytes) (t .at + i * recordWords k) (recordWords k)
   decoded own row n e w =
-      let few : length (wordsIn own) ≤ recordWords k
-      = subst (λ (l : List ℕ). length l ≤ recordWords k) (sym e) (omega (arith, length-take (recordWords k) (drop (t .at + i * recordWords k) (wordsIn bytes)))) in
+      let cut = length-take (recordWords k) (drop (t .at + i * recordWords k) (wordsIn bytes)) in
+      let room = length-replicate {A = ℕ} 16 0 in
       read-all (λ w. w) own (replicate 16 0) n row w
-      (omega (arith, few, few-words k, count (λ w. w) own, length-replicate {A = ℕ} 16 0)) ∙ e
+      (omega (arith, ap length e, cut, few-words k, count (λ w. w) own, room)) ∙ e
 
 -- ---- what it says and draws
 module _ (words : List ℕ) (t : Part) (i : ℕ) (row : List ℕ) (own : Part) (o : own ≡ alone) where
   pub node-alone : row ≡ part words (t .at + i * nodeWords) nodeWords → nodeRow row own 0 ≡ nodeRow words t i
   node-alone e = ap (λ (p : Part). nodeRow row p 0) o ∙ same-node words t i row e
 
-  pub channel-alone : row ≡ part words (t .at + i * channelWords) channelWords → channelRow row own 0 ≡ channelRow words t i
+  pub channel-alone : row ≡ part words (t .at + i * channelWords) channelWords
+      → channelRow row own 0 ≡ channelRow words t i
   channel-alone e = ap (λ (p : Part). channelRow row p 0) o ∙ same-channel words t i row e
 
   module _ (floats : List Float) (s : Sizes) where

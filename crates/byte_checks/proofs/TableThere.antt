@@ -1,5 +1,5 @@
 -- A table that does not draw 1 lies in the words. Assumes nothing.
-use mathlib.Core.Path.{_≡_, refl, sym, ap, _∙_, subst}
+use mathlib.Core.Path.{_≡_, refl, sym, ap, _∙_}
 use mathlib.Core.Bool.{Bool, true, false}
 use mathlib.Core.List.{List}
 use Prim.Native.Nat.{ℕ, _/_}
@@ -12,7 +12,7 @@ use Rattle.tables.specs.declared.Header.{Header}
 use Rattle.row_checks.specs.declared.Sizes.{Sizes}
 use Rattle.row_checks.specs.Places.{fitsIn}
 use Rattle.checks.specs.declared.Table.{Table}
-use Rattle.checks.specs.Drawn.{drawn, lowestBelow, rowNumber, tableOf, recordWords, countWithin, tableNumber, wholeNumber}
+use Rattle.checks.specs.Drawn.{drawn, tableOf, recordWords, countWithin, tableNumber, wholeNumber}
 use Rattle.checks.proofs.Lowest.{one-first}
 use Rattle.byte_checks.specs.Bytes.{TableThere}
 
@@ -22,8 +22,10 @@ unfolding drawn
 fits true w h = refl
 fits false w h = absurd (h refl)
 
-pub table-there : (bytes : List ℕ) (t : Part) (k : Table) (n : ℕ) → n ≡ tableNumber (length bytes / 4) t k → (n ≡ 1 → ⊥) → TableThere bytes t k
-table-there bytes t k n e h = fits (fitsIn t (recordWords k) (length bytes / 4)) (countWithin k (t .count)) (λ z. h (e ∙ z))
+pub table-there : (bytes : List ℕ) (t : Part) (k : Table) (n : ℕ)
+    → n ≡ tableNumber (length bytes / 4) t k → (n ≡ 1 → ⊥) → TableThere bytes t k
+table-there bytes t k n e h =
+    fits (fitsIn t (recordWords k) (length bytes / 4)) (countWithin k (t .count)) (λ z. h (e ∙ z))
 
 pub whole-there : (bytes : List ℕ) (floats : List Float) (s : Sizes) (h : Header) (k : Table) (n : ℕ)
     → n ≡ wholeNumber (wordsIn bytes) floats s h k → (n ≡ 1 → ⊥) → TableThere bytes (tableOf h k) k

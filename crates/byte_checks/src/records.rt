@@ -18,7 +18,8 @@ ghost use Rattle.byte_checks.specs.Bytes.{TableThere, RecordThere};
 // The bytes of record i.
 fn record_bytes(words: &[u8], t: Part, k: Table, i: usize) -> &[u8]
     requires { ⌜ RecordThere (now words) t k i ⌝ }
-    ensures { λ p. ⌜ wordsIn (now p) ≡ part (wordsIn (now (words .entry))) (t .at + i * recordWords k) (recordWords k) ⌝ }
+    ensures { λ p. ⌜ wordsIn (now p)
+        ≡ part (wordsIn (now (words .entry))) (t .at + i * recordWords k) (recordWords k) ⌝ }
 {
     let stride = checks::record_words(k);
     let at = t.at;

@@ -7,6 +7,7 @@ use lib.ListN.{length}
 use Rattle.row_checks.specs.declared.Sizes.{Sizes}
 use Rattle.checks.specs.Drawn.{ByCount}
 
-pub by-count : (f : Sizes → List Float → ℕ) (told sizes : Sizes) (r : ℕ) → ByCount told r (f told) → told ≡ sizes → ByCount sizes r (f sizes)
+pub by-count : (f : Sizes → List Float → ℕ) (told sizes : Sizes) (r : ℕ)
+    → ByCount told r (f told) → told ≡ sizes → ByCount sizes r (f sizes)
 by-count f told sizes r h e floats q =
     h floats (q ∙ sym (ap (λ (s : Sizes). s .floats) e)) ∙ ap (λ (s : Sizes). f s floats) e

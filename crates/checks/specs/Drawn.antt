@@ -172,7 +172,8 @@ sizesFor words floats nodeWeights meshWeights h = record {
 }
 
 abbrev pub sizesOf : Lent → Sizes
-sizesOf l = sizesFor (length (l .words)) (length (l .floats)) (length (l .nodeWeights)) (length (l .meshWeights)) (l .header)
+sizesOf l =
+    sizesFor (length (l .words)) (length (l .floats)) (length (l .nodeWeights)) (length (l .meshWeights)) (l .header)
 
 abbrev pub lentAs : List ℕ → List Float → List Float → List Float → Header → Lent
 lentAs words floats nodeWeights meshWeights h =

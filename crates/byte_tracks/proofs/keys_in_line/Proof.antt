@@ -45,7 +45,8 @@ loop-again c =
     let all = reading.count (ofBits binary32) bytes in (
       o .inv .0,
       subst (λ (x : Float). Tested floats x (o .rising && lt (o .last) x) (o .i + 1)) (sym (c .float-at2 .ensures))
-          (next-key floats (o .last) (o .rising) (o .i) (o .inv .1) (omega (arith, all, c .before .loop-test .taken, o .inv .0))),
+          (next-key floats (o .last) (o .rising) (o .i) (o .inv .1)
+          (omega (arith, all, c .before .loop-test .taken, o .inv .0))),
     )
 
 returns-2 : tie.Need-returns-2 Inv-loop μ-loop

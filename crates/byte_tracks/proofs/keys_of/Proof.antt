@@ -14,11 +14,13 @@ use Rattle.byte_tracks.proofs.keys_of.Statement.{statement}
 use Rattle.byte_tracks.proofs.keys_of.Tie as tie
 
 -- the bytes of the keys lie in the table
-in-bytes : (s : tie.Start) → let keys = s .args .t .keys in keys .at * 4 + keys .count * 4 ≤ length (now (s .args .table))
+in-bytes : (s : tie.Start)
+    → let keys = s .args .t .keys in keys .at * 4 + keys .count * 4 ≤ length (now (s .args .table))
 in-bytes s =
     let floats = floatsIn (now (s .args .table)) in
     let t = s .args .t in
-    omega (arith, keys-inside floats t (clear floats t (s .pre) .inside), reading.count (ofBits binary32) (now (s .args .table)))
+    let all = reading.count (ofBits binary32) (now (s .args .table)) in
+    omega (arith, keys-inside floats t (clear floats t (s .pre) .inside), all)
 
 mul-start : tie.Need-mul-start
 mul-start c = omega (arith, in-bytes (c .before .before))

@@ -28,7 +28,8 @@ roomy : (floats : List Float) (t : Track) (time : Float) → tableNumber floats 
     → shortFor (trackIn floats t) time weightLimit ≡ false
 roomy floats t time z e =
     let tr = trackIn floats t in
-    go (ltb keyLimit (length (tr .keys))) (isScalars (tr .kind)) (even tr) (ltb weightLimit (stride tr)) (clear floats t z .within) e
+    go (ltb keyLimit (length (tr .keys))) (isScalars (tr .kind)) (even tr) (ltb weightLimit (stride tr))
+    (clear floats t z .within) e
   where
     go : (p s e l : Bool) → (p || (s && e && l)) ≡ false → e ≡ true → (s && l) ≡ false
     go true s e l h q = absurd (true≢false h)

@@ -11,8 +11,8 @@ returns : tie.Need-returns
 returns c =
     let t = c .before .before in
     let s = t .before .before .before in
-    aimed (floatsIn (now (s .args .floats))) (s .args .row) (s .args .n) _ zero32 64 _ (c .before .track-of .ensures) (s .pre)
-    zero-is-number (c .sample-number .ensures) (t .if1 .taken)
+    aimed (floatsIn (now (s .args .floats))) (s .args .row) (s .args .n) _ zero32 64 _ (c .before .track-of .ensures)
+    (s .pre) zero-is-number (c .sample-number .ensures) (t .if1 .taken)
 
 returns-2 : tie.Need-returns-2
 returns-2 c =

@@ -1,16 +1,15 @@
 -- `byte_checks::lines::scene_number` meets its contract. Assumes nothing.
 use mathlib.Core.Path.{_≡_, refl, sym, subst, _∙_}
-use mathlib.Core.Bool.{Bool, true, false}
+use mathlib.Core.Bool.{true, false}
 use Prim.Native.Nat.{ℕ}
 use borrow.Author.Needs.{needs}
 use denote.Ref.{now}
 use Rattle.wire.proofs.Reading.{count}
-use Rattle.tables.specs.Decoded.{Lent, sceneOf}
-use Rattle.model.specs.Lists.{pick}
-use Rattle.model.specs.Refusals.{someKeysOutOfLine}
+use Rattle.tables.specs.Records.{channelWords}
+use Rattle.tables.specs.Decoded.{Lent}
 use Rattle.row_checks.specs.Places.{fitsIn}
 use Rattle.checks.specs.declared.Table.the-variants as table
-use Rattle.checks.specs.Drawn.{tableOf, recordWords, tablesNumber}
+use Rattle.checks.specs.Drawn.{tablesNumber}
 use Rattle.checks.proofs.Clearing.{checked}
 use Rattle.pose.proofs.LineLaws.{in-counts}
 use Rattle.pose.proofs.CallLaws.{none-drawn}
@@ -21,13 +20,17 @@ use Rattle.byte_checks.proofs.lines.scene_number.Tie as tie
 
 -- what is lent
 abbrev lent : tie.Start → Lent
-lent s = lentIn (now (s .args .words)) (now (s .args .floats)) (now (s .args .node-weights)) (now (s .args .mesh-weights)) (s .args .h)
+lent s =
+    let a = s .args in
+    lentIn (now (a .words)) (now (a .floats)) (now (a .node-weights)) (now (a .mesh-weights)) (a .h)
 
 abbrev start : tie.After-tables-number → tie.Start
 start c = c .before .before .before .before .before
 
 returns : tie.Need-returns
-returns c = let s = start (c .before) in scene-drawn (lent s) (s .args .time) _ (c .before .tables-number .ensures) (c .if1 .taken)
+returns c =
+    let s = start (c .before) in
+    scene-drawn (lent s) (s .args .time) _ (c .before .tables-number .ensures) (c .if1 .taken)
 
 none : (c : tie.Else1) → tablesNumber (lent (start (c .before))) ≡ 0
 none c = sym (c .before .tables-number .ensures) ∙ c .if1 .left
@@ -42,9 +45,9 @@ some-out-of-line-requires : tie.Need-some-out-of-line-requires
 some-out-of-line-requires c κs =
     let d = c .before .before .before in
     let s = start (d .before) in
-    let h = s .args .h in
-    let there = checked (lent s) (none d) .tables table.Channels in (
-      subst (λ (n : ℕ). fitsIn (tableOf h table.Channels) (recordWords table.Channels) n ≡ true) (count (λ w. w) (now (s .args .words))) there,
+    let there = checked (lent s) (none d) .tables table.Channels in
+    let all = count (λ w. w) (now (s .args .words)) in (
+      subst (λ (n : ℕ). fitsIn (s .args .h .channels) channelWords n ≡ true) all there,
       none-drawn (lent s) (none d),
     )
 

@@ -39,9 +39,10 @@ is-out-of-line-requires c κs =
 
 -- whether the channel of this turn is out of line
 told : (c : tie.After-is-out-of-line Inv-loop μ-loop)
-    → let a = c .before .before .before .before .before .before .args in
-    outOfLine (a .n) (channelIn (floatsIn (now (a .floats))) (channelRow (wordsIn (now (a .words))) (a .channels) (c .before .before .before .loop .k)))
-    ≡ c .is-out-of-line .result
+    → let l = c .before .before .before in
+    let a = l .before .before .before .args in
+    let row = channelRow (wordsIn (now (a .words))) (a .channels) (l .loop .k) in
+    outOfLine (a .n) (channelIn (floatsIn (now (a .floats))) row) ≡ c .is-out-of-line .result
 told c =
     let a = c .before .before .before .before .before .before .args in
     let test : ChannelRow → Bool = λ r. outOfLine (a .n) (channelIn (floatsIn (now (a .floats))) r) in
@@ -51,7 +52,8 @@ returns : tie.Need-returns Inv-loop μ-loop
 returns c =
     let l = c .before .before .before .before in
     let a = l .before .before .before .args in
-    sym (any-there (a .channels .count) _ (outOfLine (a .n)) (l .loop .k) (omega arith) (told (c .before) ∙ c .if1 .taken))
+    sym (any-there (a .channels .count) _ (outOfLine (a .n)) (l .loop .k) (omega arith)
+    (told (c .before) ∙ c .if1 .taken))
 
 loop-again : tie.Need-loop-again Inv-loop μ-loop
 loop-again c = (

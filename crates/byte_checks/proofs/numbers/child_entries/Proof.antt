@@ -11,7 +11,8 @@ use Rattle.byte_checks.proofs.numbers.child_entries.Statement.{statemen
 use Rattle.byte_checks.proofs.numbers.child_entries.Tie as tie
 
 abbrev Inv-loop : tie.InvT-loop
-Inv-loop words nodes count sum₀ i₀ sum i = (count ≡ nodes .count) × (i ≤ count) × (sum ≡ min (sumBelow i (childCount (wordsIn words) nodes)) entryCap)
+Inv-loop words nodes count sum₀ i₀ sum i =
+    (count ≡ nodes .count) × (i ≤ count) × (sum ≡ min (sumBelow i (childCount (wordsIn words) nodes)) entryCap)
 
 abbrev μ-loop : tie.MeasureT-loop
 μ-loop words nodes count sum₀ i₀ sum i = count - i
@@ -24,7 +25,8 @@ loop-again : tie.Need-loop-again Inv-loop μ-loop
 loop-again c = (
   refl,
   omega arith,
-  sum-more (childCount _ _) _ _ _ _ (c .before .before .before .loop .inv .2) (c .before .child-count .ensures) (c .capped .ensures),
+  sum-more (childCount _ _) _ _ _ _ (c .before .before .before .loop .inv .2) (c .before .child-count .ensures)
+      (c .capped .ensures),
 )
 
 child-count-requires : tie.Need-child-count-requires Inv-loop μ-loop

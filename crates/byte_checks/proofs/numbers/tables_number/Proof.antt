@@ -4,7 +4,6 @@ use Prim.Native.Nat.{ℕ}
 use borrow.Author.Needs.{needs}
 use denote.Ref.{now}
 use lib.Ieee.{binary32, ofBits}
-use Rattle.wire.specs.Bytes.{wordsIn, floatsIn}
 use Rattle.wire.proofs.Reading.{count}
 use Rattle.tables.specs.Decoded.{Lent}
 use Rattle.checks.specs.declared.Table.the-variants as table
@@ -18,7 +17,9 @@ use Rattle.byte_checks.proofs.numbers.tables_number.Tie as tie
 
 -- what is lent
 abbrev lent : tie.Start → Lent
-lent s = lentIn (now (s .args .words)) (now (s .args .floats)) (now (s .args .node-weights)) (now (s .args .mesh-weights)) (s .args .h)
+lent s =
+    let a = s .args in
+    lentIn (now (a .words)) (now (a .floats)) (now (a .node-weights)) (now (a .mesh-weights)) (a .h)
 
 abbrev start : tie.After-sizes-for → tie.Start
 start c = c .before .before .before .before .before .before
@@ -27,8 +28,8 @@ sized : (c : tie.After-sizes-for) → c .sizes-for .result ≡ sizesOf (lent (st
 sized c =
     let a = start c .args in
     c .sizes-for .ensures
-    ∙ (λ j. sizesFor (sym (count (λ w. w) (now (a .words))) j) (sym (count (ofBits binary32) (now (a .floats))) j)
-    (sym (count (ofBits binary32) (now (a .node-weights))) j) (sym (count (ofBits binary32) (now (a .mesh-weights))) j) (a .h))
+    ∙ sym (λ j. sizesFor (count (λ w. w) (now (a .words)) j) (count (ofBits binary32) (now (a .floats)) j)
+    (count (ofBits binary32) (now (a .node-weights)) j) (count (ofBits binary32) (now (a .mesh-weights)) j) (a .h))
 
 -- what the nodes draw
 nodes : (c : tie.After-whole-number)
@@ -46,7 +47,8 @@ returns c = one-first _ _ (sym (nodes (c .before)) ∙ c .if1 .taken)
 children-number-requires : tie.Need-children-number-requires
 children-number-requires c κs =
     let s = start (c .before .before) in
-    whole-there (now (s .args .words)) (lent s .floats) (sizesOf (lent s)) (s .args .h) table.Nodes _ (nodes (c .before)) (c .if1 .left)
+    whole-there (now (s .args .words)) (lent s .floats) (sizesOf (lent s)) (s .args .h) table.Nodes _
+    (nodes (c .before)) (c .if1 .left)
 
 returns-2 : tie.Need-returns-2
 unfolding tablesNumber
@@ -54,10 +56,10 @@ returns-2 c =
     let p = c .before .before .before in
     let w = p .before .before .before .before in
     let l = lent (start (w .before)) in
-    let roots = p .before .roots-number .ensures
-    ∙ ap (λ (n : ℕ). rootsNumber n (l .header .graph .roots)) (sym (count (λ w. w) (now (start (w .before) .args .words)))) in
-    let listed = by-count (λ s floats. listedNumber (l .words) floats s (l .header)) _ _ _
-    (p .listed-number .ensures) (sized (w .before)) (l .floats) refl in
+    let all = sym (count (λ w. w) (now (start (w .before) .args .words))) in
+    let roots = p .before .roots-number .ensures ∙ ap (λ (n : ℕ). rootsNumber n (l .header .graph .roots)) all in
+    let told = by-count (λ s floats. listedNumber (l .words) floats s (l .header)) _ _ _ (p .listed-number .ensures) in
+    let listed = told (sized (w .before)) (l .floats) refl in
     (c .lower3 .ensures)
     ∙ (λ j. lowerOf (nodes w j) (((c .before .lower2 .ensures)
     ∙ (λ j. lowerOf ((p .before .before .children-number .ensures) j) (((c .before .before .lower .ensures)

@@ -1,5 +1,6 @@
 -- `byte_checks::numbers::whole_number` meets its contract. Assumes nothing.
 use mathlib.Core.Path.{_≡_, sym, ap, _∙_}
+use Prim.Native.Nat.{ℕ}
 use borrow.Author.Needs.{needs}
 use denote.Ref.{now}
 use lib.ListN.{length}
@@ -28,16 +29,16 @@ returns c floats e = one-first _ _ (sym (drawn (c .before)) ∙ c .if1 .taken)
 rows-number-requires : tie.Need-rows-number-requires
 rows-number-requires c κs =
     let a = c .before .before .before .before .args in
-    table-there (now (a .words)) (c .before .before .table-of .result) (a .k) _ (c .before .table-number .ensures) (c .if1 .left)
+    table-there (now (a .words)) (c .before .before .table-of .result) (a .k) _ (c .before .table-number .ensures)
+    (c .if1 .left)
 
 returns-2 : tie.Need-returns-2
 unfolding wholeNumber
 returns-2 c floats e =
     let d = c .before .before .before in
     let a = d .before .before .before .args in
-    let rows = c .before .rows-number .ensures floats e
-    ∙ ap (λ (t : Part). lowestBelow (t .count) (rowNumber (wordsIn (now (a .words))) floats (a .s) t (a .k)))
-    (d .before .table-of .ensures) in
+    let draws : Part → ℕ = λ t. lowestBelow (t .count) (rowNumber (wordsIn (now (a .words))) floats (a .s) t (a .k)) in
+    let rows = c .before .rows-number .ensures floats e ∙ ap draws (d .before .table-of .ensures) in
     c .lower .ensures ∙ (λ j. lowerOf (drawn d j) (rows j))
 
 pub whole-number-spec : {M : Type 1} → statement M

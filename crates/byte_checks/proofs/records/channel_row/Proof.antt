@@ -19,7 +19,8 @@ returns c =
     let a = b .before .before .args in
     c .channel-row .ensures
     ∙ channel-alone (wordsIn (now (a .words))) (a .channels) (a .i) _ _ (c .before .alone .ensures)
-    (decoded (now (a .words)) (a .channels) table.Channels (a .i) _ _ _ (b .record-bytes .ensures) (r .read-words .ensures))
+    (decoded (now (a .words)) (a .channels) table.Channels (a .i) _ _ _ (b .record-bytes .ensures)
+    (r .read-words .ensures))
 
 pub channel-row-spec : {M : Type 1} → statement M
 channel-row-spec =

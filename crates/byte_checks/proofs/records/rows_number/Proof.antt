@@ -12,7 +12,8 @@ use Rattle.byte_checks.proofs.records.rows_number.Tie as tie
 
 abbrev Inv-loop : tie.InvT-loop
 Inv-loop words s t k count number₀ i₀ number i =
-    (count ≡ t .count) × (i ≤ count) × ByCount s number (λ floats. lowestBelow i (rowNumber (wordsIn words) floats s t k))
+    (count ≡ t .count) × (i ≤ count)
+    × ByCount s number (λ floats. lowestBelow i (rowNumber (wordsIn words) floats s t k))
 
 abbrev μ-loop : tie.MeasureT-loop
 μ-loop words s t k count number₀ i₀ number i = count - i

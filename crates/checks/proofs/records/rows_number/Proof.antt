@@ -24,7 +24,9 @@ loop-again : tie.Need-loop-again Inv-loop μ-loop
 loop-again c = (
   refl,
   omega arith,
-  λ floats e. lowest-more _ _ _ _ _ (c .before .before .before .loop .inv .2 floats e) (c .before .row-number .ensures floats e) (c .lower .ensures),
+  λ floats e.
+      lowest-more _ _ _ _ _ (c .before .before .before .loop .inv .2 floats e) (c .before .row-number .ensures floats e)
+      (c .lower .ensures),
 )
 
 returns : tie.Need-returns Inv-loop μ-loop
