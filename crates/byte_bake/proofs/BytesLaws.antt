@@ -21,7 +21,7 @@ use Rattle.bake_stages.specs.Scratch.{roomOf, scratchLeft}
 use Rattle.bake.specs.declared.Answer.{Answer}
 use Rattle.bake.specs.Baked.{Room, Change}
 use Rattle.lent_bytes.specs.Bytes.{SceneBytes, Decoding, lentBy, drawnBy, decodedTo}
-use Rattle.byte_numbers.specs.Numbers.{earlyIn, firstIn}
+use Rattle.byte_checks.specs.Numbers.{earlyIn, firstIn}
 use Rattle.byte_baking.specs.Output.{ByteOutput, ByteOutputChange, withOutput}
 use Rattle.byte_baking.specs.Baked.{requestIn, outcomeIn, isReached, roomIn, BakedIn}
 use Rattle.byte_bake.specs.Baked.{BakedBytes}

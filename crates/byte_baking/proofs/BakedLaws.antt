@@ -20,7 +20,7 @@ use Rattle.checks.specs.Drawn.{tablesNumber}
 use Rattle.bake_stages.specs.Scratch.{Slices, roomOf, scratchLeft}
 use Rattle.bake.specs.declared.Answer.{Answer}
 use Rattle.bake.specs.Baked.{Room, requestOf, outcome, roomAfter, Baked}
-use Rattle.byte_numbers.specs.Numbers.{earlyIn, firstIn}
+use Rattle.byte_checks.specs.Numbers.{earlyIn, firstIn}
 use Rattle.byte_baking.specs.Output.{ByteOutput, withFloats, withOutput, Fits}
 use Rattle.byte_baking.specs.Baked.{requestIn, outcomeIn, isReached, roomIn, BakedIn}
 use Rattle.byte_baking.proofs.OutputLaws.{whole, fits, start}

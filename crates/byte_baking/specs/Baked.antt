@@ -11,7 +11,7 @@ use Rattle.tables.specs.Decoded.{Lent, sceneOf}
 use Rattle.bake_stages.specs.Scratch.{roomOf, scratchLeft}
 use Rattle.bake.specs.declared.Answer.{Answer}
 use Rattle.bake.specs.Baked.{Room, Change, answerOf}
-use Rattle.byte_numbers.specs.Numbers.{earlyIn, firstIn}
+use Rattle.byte_checks.specs.Numbers.{earlyIn, firstIn}
 use Rattle.byte_baking.specs.Output.{ByteOutput, ByteOutputChange, withOutput}
 
 -- node i at a time; an output has as much room as both its floats and its bytes have

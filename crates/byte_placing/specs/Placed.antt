@@ -19,7 +19,7 @@ use Rattle.pose_slots.specs.Slots.{room}
 use Rattle.worlds.specs.declared.Answer.{Answer}
 use Rattle.worlds.specs.Slots.{slotsOf}
 use Rattle.worlds.specs.Placed.{posesIn}
-use Rattle.byte_numbers.specs.Numbers.{placeIn}
+use Rattle.byte_checks.specs.Numbers.{placeIn}
 
 -- the room that a placing changes: walk room and world slots (codes of places, and matrices), and the slots once more in bytes
 pub record Room : Type 0 where

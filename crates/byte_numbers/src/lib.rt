@@ -1,1 +1,0 @@
-// The numbers of the calls on scenes in bytes.
