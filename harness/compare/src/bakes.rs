@@ -3,6 +3,7 @@
 //! Rust starts from the port's rotations.
 
 pub mod case;
+mod largest;
 mod on_bytes;
 mod sorts;
 pub mod speed;
@@ -28,7 +29,7 @@ const LARGE_SCENES: usize = 50;
 /// Of the long run, which has other scenes.
 const LONG_SMALL_SCENES: usize = 10_000_000;
 const LONG_LARGE_SCENES: usize = 5_000;
-/// Scenes that are also lent to `bake` in slices as long as it decodes, and longer.
+/// Scenes that are also lent to `bake` in longer slices.
 const LONG_SLICES: usize = 20;
 /// Of a scene, at most.
 const BAKED_NODES: u32 = 8;
@@ -62,6 +63,7 @@ fn compare_scenes(small: usize, large: usize, seed: u64) -> bool {
     for (count, sizes) in [(small, FEW_NODES), (large, MANY_NODES)] {
         comparison.count_scenes(count, &sizes, &mut rng);
     }
+    comparison.count_largest(&mut rng);
     comparison.report()
 }
 
@@ -117,9 +119,22 @@ impl Comparison {
                 self.count_faulty(&case);
             }
             if scenes < LONG_SLICES {
-                self.on_bytes.count_at_limits(&case, 0);
+                self.on_bytes.count_in_long_slices(&case, 0);
             }
             scenes += 1;
+        }
+    }
+
+    /// Of as many nodes, child entries, channels and keys as the limits allow.
+    fn count_largest(&mut self, rng: &mut Rng) {
+        let (scene, animation) = largest::scene();
+        let lent = lend(&scene, &animation, &mut Layout::Compact);
+        let moved = Moved::new(&scene, animation, rng);
+        for time in [0.5, 40_000.25] {
+            let case = Case::new(&scene, &moved, lent.of_port(), time);
+            for node in [0, 1] {
+                self.count(&case, node, case.lens(node));
+            }
         }
     }
 

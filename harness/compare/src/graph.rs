@@ -111,7 +111,7 @@ impl Comparison {
             posed: &posed,
             answers: &answers,
         };
-        self.on_bytes.count_at_limits(&case, rng);
+        self.on_bytes.count_in_long_slices(&case, rng);
     }
 
     fn count_parents(&mut self, scene: &Scene3D, case: &Case, rng: &mut Rng) {

@@ -1,37 +1,16 @@
 //! A scene in bytes, and what the comparisons of `place` and `bake` on bytes
 //! share.
 
-use crate::port::{ByteTables, Header, Part, Tables};
+use crate::{
+    port::{ByteTables, Decoding, Header, Part, Tables},
+    rng::Rng,
+    tally::{one_nan_bits, UNTOUCHED},
+};
 
-/// The most of `words`, and of each slice of floats, that the port decodes.
-const WORD_LIMIT: usize = 32_768;
-const FLOAT_LIMIT: usize = 65_536;
-/// The most words of walk room that are used.
-pub const WALK_LIMIT: usize = 18_432;
+/// Of words, and of each slice of floats, more than a small scene has.
+const LONG_WORDS: usize = 40_000;
+const LONG_FLOATS: usize = 70_000;
 pub const LENT_BYTE: u8 = 0xa5;
-
-pub fn is_over(lent: &Tables) -> bool {
-    lent.words.len() > WORD_LIMIT
-        || [lent.floats, lent.node_weights, lent.mesh_weights]
-            .iter()
-            .any(|floats| floats.len() > FLOAT_LIMIT)
-}
-
-/// Where a slice has more than the port decodes: 1 if a table that the header
-/// names leaves the words, otherwise 2. Where none has: 0.
-pub fn over_number(lent: &Tables) -> u32 {
-    let mut header = lent.header;
-    let fits = tables(&mut header).into_iter().all(|(part, width)| {
-        let words = part.count.checked_mul(width);
-        let end = words.and_then(|words| words.checked_add(part.at));
-        end.is_some_and(|end| end <= lent.words.len())
-    });
-    match (is_over(lent), fits) {
-        (false, _) => 0,
-        (true, false) => 1,
-        (true, true) => 2,
-    }
-}
 
 /// The tables that a header names, with the words of a record.
 fn tables(header: &mut Header) -> [(&mut Part, usize); 9] {
@@ -54,27 +33,24 @@ fn tables(header: &mut Header) -> [(&mut Part, usize); 9] {
     ]
 }
 
-/// Each slice of the scene just short enough, and not; and of words that are
-/// not, each table one word past their end.
-pub fn at_limits(lent: Tables, mut count: impl FnMut(Tables)) {
+/// Each slice of the scene longer; and of the longer words, each table one word
+/// past their end.
+pub fn in_long_slices(lent: Tables, mut count: impl FnMut(Tables)) {
     let mut words = lent.words.to_vec();
     let mut floats = lent.floats.to_vec();
-    for more in 0..2 {
-        words.resize(WORD_LIMIT + more, 7);
-        floats.resize(FLOAT_LIMIT + more, 0.5);
-        let (words, floats) = (&words, &floats);
-        count(Tables { words, ..lent });
-        count(Tables { floats, ..lent });
-        count(Tables {
-            node_weights: floats,
-            ..lent
-        });
-        count(Tables {
-            mesh_weights: floats,
-            ..lent
-        });
-    }
-    let words = &words;
+    words.resize(LONG_WORDS, 7);
+    floats.resize(LONG_FLOATS, 0.5);
+    let (words, floats) = (&words, &floats);
+    count(Tables { words, ..lent });
+    count(Tables { floats, ..lent });
+    count(Tables {
+        node_weights: floats,
+        ..lent
+    });
+    count(Tables {
+        mesh_weights: floats,
+        ..lent
+    });
     for k in 0..tables(&mut lent.header.clone()).len() {
         let mut header = lent.header;
         let (part, width) = &mut tables(&mut header)[k];
@@ -84,6 +60,52 @@ pub fn at_limits(lent: Tables, mut count: impl FnMut(Tables)) {
             header,
             ..lent
         });
+    }
+}
+
+/// The floats of a scene, in the order in which they are decoded.
+fn all_floats(lent: &Tables) -> Vec<f32> {
+    [lent.floats, lent.node_weights, lent.mesh_weights].concat()
+}
+
+impl Decoding {
+    /// Room for a scene.
+    pub fn enough(lent: &Tables) -> Self {
+        Decoding {
+            words: vec![0; lent.words.len()],
+            floats: vec![0.0; all_floats(lent).len()],
+        }
+    }
+
+    /// Room for a scene: as a rule enough, at times one word or float too few.
+    pub fn lent(lent: &Tables, rng: &mut Rng) -> Self {
+        let mut lens = [lent.words.len(), all_floats(lent).len()];
+        let of = rng.below(2) as usize;
+        lens[of] = match rng.below(8) {
+            0 => lens[of].saturating_sub(1),
+            more => lens[of] + more as usize - 1,
+        };
+        Decoding {
+            words: (0xdec0_0000..).take(lens[0]).collect(),
+            floats: vec![UNTOUCHED; lens[1]],
+        }
+    }
+
+    pub fn is_short(&self, lent: &Tables) -> bool {
+        self.words.len() < lent.words.len() || self.floats.len() < all_floats(lent).len()
+    }
+
+    /// With the scene at its start.
+    pub fn put(&mut self, lent: &Tables) {
+        self.words[..lent.words.len()].copy_from_slice(lent.words);
+        let floats = all_floats(lent);
+        self.floats[..floats.len()].copy_from_slice(&floats);
+    }
+
+    /// All NaNs being one.
+    pub fn bits(&self) -> [Vec<u32>; 2] {
+        let floats = self.floats.iter().map(|x| one_nan_bits(*x));
+        [self.words.clone(), floats.collect()]
     }
 }
 
@@ -119,12 +141,12 @@ impl Encoded {
     }
 }
 
-pub fn bits(floats: &[f32]) -> impl Iterator<Item = u32> + '_ {
+fn bits(floats: &[f32]) -> impl Iterator<Item = u32> + '_ {
     floats.iter().map(|x| x.to_bits())
 }
 
 /// With so many bytes past the last word.
-pub fn encoded(words: impl Iterator<Item = u32>, odd: usize) -> Vec<u8> {
+fn encoded(words: impl Iterator<Item = u32>, odd: usize) -> Vec<u8> {
     let mut bytes: Vec<u8> = words.flat_map(u32::to_le_bytes).collect();
     bytes.resize(bytes.len() + odd, LENT_BYTE);
     bytes

@@ -71,6 +71,8 @@ mod foreign {
             values_at: usize,
             values_count: usize,
             time: u32,
+            room: *mut f32,
+            room_len: usize,
             value: *mut [u8; 16],
             out: *mut u8,
             out_len: usize,
@@ -177,12 +179,13 @@ pub fn sample(track: &Track, time: f32, value: &mut [f32; 4], out: &mut [f32]) -
     }
 }
 
-/// The same on little-endian bytes: `table` holds the track's floats, and `time`
-/// is a bit pattern.
+/// The same on little-endian bytes: `table` holds the track's floats and is
+/// decoded into `room`, and `time` is a bit pattern.
 pub fn sample_bytes(
     track: &Track,
     table: &[u8],
     time: u32,
+    room: &mut [f32],
     value: &mut [u8; 16],
     out: &mut [u8],
 ) -> Told {
@@ -198,6 +201,8 @@ pub fn sample_bytes(
             track.values_at,
             track.values_count,
             time,
+            room.as_mut_ptr(),
+            room.len(),
             value,
             out.as_mut_ptr(),
             out.len(),

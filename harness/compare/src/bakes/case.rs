@@ -25,7 +25,7 @@ pub const LENT: [&str; 8] = [
 /// How many words or floats of each.
 pub type Lens = [usize; LENT.len()];
 /// The first so many are scratch room.
-const SCRATCH: usize = 5;
+pub const SCRATCH: usize = 5;
 
 const SHORT_SCRATCH: u32 = 6;
 const NO_SUCH_MESH: u32 = 7;
@@ -232,7 +232,7 @@ pub fn room(lens: Lens) -> BakeRoom {
     }
 }
 
-fn bits_of(room: &BakeRoom) -> [Vec<u32>; LENT.len()] {
+pub fn bits_of(room: &BakeRoom) -> [Vec<u32>; LENT.len()] {
     let bits = |floats: &[f32]| floats.iter().map(|x| one_nan_bits(*x)).collect();
     [
         room.walk.clone(),

@@ -1,16 +1,16 @@
 //! `bake` on bytes, compared with what `bake_floats` gives on the words and
-//! floats in them. Of the scratch room only what the nodes and the walk need is
-//! written, and of the outputs the result. A slice of the scene of more than is
-//! decoded draws 2, and bytes past the last whole word of a slice count for
-//! nothing.
+//! floats in them: whatever the decoding room, 1 to 6 stay, and a short one draws
+//! 6. Past 7 it holds the scene, and is otherwise as lent. An output has as much
+//! room as both its floats and its bytes have, and bytes past the last whole word
+//! of a slice count for nothing.
 
 use super::{
-    case::{room, Case, Lens, LENT},
+    case::{bits_of, room, Case, Lens, LENT, SCRATCH},
     NUMBERS,
 };
 use crate::{
-    in_bytes::{at_limits, is_over, over_number, put, Encoded, LENT_BYTE, WALK_LIMIT},
-    port::{self, BakeRoom, Baked, ByteRoom},
+    in_bytes::{in_long_slices, put, Encoded, LENT_BYTE},
+    port::{self, BakeRoom, Baked, ByteOutputs, Decoding},
     rng::Rng,
     tally::{one_nan_bits, Met, Tally},
 };
@@ -19,6 +19,7 @@ use std::array::from_fn;
 /// Of the cases that are refused, one in so many.
 const EVERY: u64 = 64;
 const CASES: u64 = 20_000;
+const SHORT_SCRATCH: u32 = 6;
 /// The first number after which the scratch room is changed.
 const UNPLACED: u32 = 8;
 
@@ -28,7 +29,24 @@ pub struct Comparison {
     refused: u64,
     compared: Met<1>,
     numbers: Met<{ NUMBERS.len() }>,
-    met: Met<4>,
+    met: Met<6>,
+}
+
+/// What is lent to a call beside the scene: outputs in more floats or more bytes
+/// than in the other.
+struct Lent {
+    decoding: Decoding,
+    floats: [usize; 3],
+    bytes: [usize; 3],
+}
+
+/// What a call answers, and the bits in all that it is lent, all NaNs being one.
+#[derive(Debug, PartialEq)]
+struct Left {
+    told: Baked,
+    decoding: [Vec<u32>; 2],
+    room: [Vec<u32>; LENT.len()],
+    outputs: ByteOutputs,
 }
 
 impl Comparison {
@@ -39,7 +57,14 @@ impl Comparison {
             refused: 0,
             compared: Met::new(["compared"]),
             numbers: Met::new(["1", "2", "3", "5", "6", "7", "8", "9", "10"]),
-            met: Met::new(["baked", "NaN", "over size", "odd slices"]),
+            met: Met::new([
+                "baked",
+                "NaN",
+                "short decoding room",
+                "lower than 6 with one",
+                "more floats",
+                "more bytes",
+            ]),
         }
     }
 
@@ -52,37 +77,44 @@ impl Comparison {
     }
 
     pub fn count(&mut self, case: &Case, node: u32, lens: Lens) {
-        let odd = [(); LENT.len()].map(|_| self.rng.below(4) as usize);
-        let lent = lent_bytes(lens, odd);
-        let floats = of_floats(case, node, lens, lent.clone());
-        let bytes = of_bytes(case, node, odd, lent);
-        self.meet(&floats, is_over(&case.lent), odd);
+        let odd = from_fn(|_| self.rng.below(4) as usize);
+        let lent = Lent::new(case, lens, &mut self.rng);
+        let floats = of_floats(case, node, lens, &lent);
+        let bytes = of_bytes(case, node, lens, &lent, odd);
+        self.meet(&floats, &lent, case);
         self.tally.count(case.size(), floats == bytes, |_| {
             let asked = format!("node {node} with {lens:?} and {odd:?}");
             format!("{asked}, from floats {floats:02x?}, from bytes {bytes:02x?}")
         });
     }
 
-    /// Each slice of the scene just short enough, and not, with more room than is
-    /// used.
-    pub fn count_at_limits(&mut self, case: &Case, node: u32) {
+    /// Each slice of the scene longer than it need be, and more room than is used.
+    pub fn count_in_long_slices(&mut self, case: &Case, node: u32) {
         let lens = case.lens(node).map(|len| len + 70_000);
-        at_limits(case.lent, |lent| {
+        in_long_slices(case.lent, |lent| {
             let case = Case::new(case.scene, case.moved, lent, case.time);
             self.count(&case, node, lens);
         });
     }
 
-    fn meet(&mut self, (told, room): &(Baked, ByteRoom), is_over: bool, odd: Lens) {
+    fn meet(&mut self, left: &Left, lent: &Lent, case: &Case) {
         self.compared.count(0);
-        match NUMBERS.iter().position(|number| *number == told.number) {
+        let number = left.told.number;
+        match NUMBERS.iter().position(|known| *known == number) {
             Some(k) => self.numbers.count(k),
             None => self.met.count(0),
         }
         let nan = 0x7fc0_0000u32.to_le_bytes();
-        let has_nan = room.positions.chunks(4).any(|bytes| bytes == nan);
-        self.met
-            .count_all(&[false, has_nan, is_over, odd != [0; LENT.len()]]);
+        let has_nan = left.outputs.positions.chunks(4).any(|bytes| bytes == nan);
+        let is_short = lent.decoding.is_short(&case.lent);
+        self.met.count_all(&[
+            false,
+            has_nan,
+            is_short,
+            is_short && number < SHORT_SCRATCH,
+            lent.floats.iter().zip(lent.bytes).any(|(n, m)| *n > m / 4),
+            lent.floats.iter().zip(lent.bytes).any(|(n, m)| *n < m / 4),
+        ]);
     }
 
     pub fn report(&self) -> bool {
@@ -101,62 +133,105 @@ impl Comparison {
     }
 }
 
-/// So many words or floats each, and bytes past the last.
-fn lent_bytes(lens: Lens, odd: Lens) -> ByteRoom {
-    let [walk, marks, slots, places, worlds, positions, normals, tangents] =
-        from_fn(|k| vec![LENT_BYTE; 4 * lens[k] + odd[k]]);
-    ByteRoom {
-        walk,
-        marks,
-        slots,
-        places,
-        worlds,
-        positions,
-        normals,
-        tangents,
+impl Lent {
+    /// Where the outputs have as much room as `lens` says.
+    fn new(case: &Case, lens: Lens, rng: &mut Rng) -> Self {
+        let decoding = Decoding::lent(&case.lent, rng);
+        let more: [usize; 3] = from_fn(|_| rng.below(3) as usize);
+        let is_of_floats = rng.below(2) == 0;
+        let len =
+            |k: usize, is_longer: bool| lens[SCRATCH + k] + if is_longer { more[k] } else { 0 };
+        Lent {
+            decoding,
+            floats: from_fn(|k| len(k, is_of_floats)),
+            bytes: from_fn(|k| 4 * len(k, !is_of_floats) + rng.below(4) as usize),
+        }
+    }
+
+    fn lens(&self, lens: Lens) -> Lens {
+        from_fn(|k| {
+            if k < SCRATCH {
+                lens[k]
+            } else {
+                self.floats[k - SCRATCH]
+            }
+        })
+    }
+
+    fn outputs(&self) -> ByteOutputs {
+        let [positions, normals, tangents] = self.bytes.map(|len| vec![LENT_BYTE; len]);
+        ByteOutputs {
+            positions,
+            normals,
+            tangents,
+        }
     }
 }
 
-fn of_floats(case: &Case, node: u32, lens: Lens, mut bytes: ByteRoom) -> (Baked, ByteRoom) {
-    if is_over(&case.lent) {
-        let told = Baked {
-            number: over_number(&case.lent),
+fn of_floats(case: &Case, node: u32, lens: Lens, lent: &Lent) -> Left {
+    let mut left = room(lens);
+    let mut told = port::bake(&case.lent, node, case.time, &mut left);
+    let is_early = (1..=SHORT_SCRATCH).contains(&told.number);
+    if lent.decoding.is_short(&case.lent) && !is_early {
+        told = Baked {
+            number: SHORT_SCRATCH,
             ..Baked::default()
         };
-        return (told, bytes);
     }
-    let mut left = room(lens);
-    let told = port::bake(&case.lent, node, case.time, &mut left);
+    let mut decoding = lent.decoding.clone();
+    let mut whole = room(lent.lens(lens));
+    let mut outputs = lent.outputs();
     if told.number == 0 || told.number >= UNPLACED {
-        put_scratch(&left, case.scene.nodes.len(), &mut bytes);
+        decoding.put(&case.lent);
+        put_room(&left, &mut whole);
+        put(
+            &one_nan(&left.positions[..told.positions]),
+            &mut outputs.positions,
+        );
+        put(
+            &one_nan(&left.normals[..told.normals]),
+            &mut outputs.normals,
+        );
+        put(
+            &one_nan(&left.tangents[..told.tangents]),
+            &mut outputs.tangents,
+        );
     }
-    put(
-        &one_nan(&left.positions[..told.positions]),
-        &mut bytes.positions,
-    );
-    put(&one_nan(&left.normals[..told.normals]), &mut bytes.normals);
-    put(
-        &one_nan(&left.tangents[..told.tangents]),
-        &mut bytes.tangents,
-    );
-    (told, bytes)
+    Left {
+        told,
+        decoding: decoding.bits(),
+        room: bits_of(&whole),
+        outputs,
+    }
 }
 
-fn put_scratch(left: &BakeRoom, nodes: usize, bytes: &mut ByteRoom) {
-    let walk = left.walk.len().min(WALK_LIMIT);
-    put(&left.walk[..walk], &mut bytes.walk);
-    put(&left.marks[..4 * nodes], &mut bytes.marks);
-    put(&one_nan(&left.slots[..10 * nodes]), &mut bytes.slots);
-    put(&left.places[..nodes], &mut bytes.places);
-    put(&one_nan(&left.worlds[..16 * nodes]), &mut bytes.worlds);
+/// The outputs may be longer.
+fn put_room(left: &BakeRoom, whole: &mut BakeRoom) {
+    whole.walk.copy_from_slice(&left.walk);
+    whole.marks.copy_from_slice(&left.marks);
+    whole.slots.copy_from_slice(&left.slots);
+    whole.places.copy_from_slice(&left.places);
+    whole.worlds.copy_from_slice(&left.worlds);
+    whole.positions[..left.positions.len()].copy_from_slice(&left.positions);
+    whole.normals[..left.normals.len()].copy_from_slice(&left.normals);
+    whole.tangents[..left.tangents.len()].copy_from_slice(&left.tangents);
 }
 
 fn one_nan(floats: &[f32]) -> Vec<u32> {
     floats.iter().map(|x| one_nan_bits(*x)).collect()
 }
 
-fn of_bytes(case: &Case, node: u32, odd: Lens, mut room: ByteRoom) -> (Baked, ByteRoom) {
-    let scene = Encoded::of(&case.lent, [odd[0], odd[1], odd[2], odd[3]]);
-    let told = port::bake_bytes(&scene.lent(), node, case.time.to_bits(), &mut room);
-    (told, room)
+fn of_bytes(case: &Case, node: u32, lens: Lens, lent: &Lent, odd: [usize; 4]) -> Left {
+    let scene = Encoded::of(&case.lent, odd);
+    let mut decoding = lent.decoding.clone();
+    let mut room = room(lent.lens(lens));
+    let mut outputs = lent.outputs();
+    let asked = (node, case.time.to_bits());
+    let told = port::bake_bytes(&scene.lent(), asked, &mut decoding, &mut room, &mut outputs);
+    Left {
+        told,
+        decoding: decoding.bits(),
+        room: bits_of(&room),
+        outputs,
+    }
 }

@@ -149,7 +149,7 @@ impl Room {
 }
 
 /// Words of which each is another, and none a code.
-fn filled(len: usize) -> Vec<u32> {
+pub fn filled(len: usize) -> Vec<u32> {
     (0xdead_0000..).take(len).collect()
 }
 

@@ -2,9 +2,9 @@
 
 use super::{answers::Answers, no_animation, poses::Posed, scenes::tree};
 use crate::{
-    in_bytes::{bits, encoded, Encoded},
+    in_bytes::Encoded,
     measure::side_by_side,
-    port::{self, Placed},
+    port::{self, Decoding, PlaceRoom, Placed},
     rng::Rng,
     tables::{
         build::lend,
@@ -60,20 +60,24 @@ fn measure_bytes(scene: &Scene3D, lent: &Lent) {
     let posed = Posed::plain(&mut Rng::new(2), nodes);
     let pose = posed.of_rust(nodes);
     let taken = Answers::of(scene, &pose).taken;
-    let lent = Encoded::of(&lent.of_port(), [0; 4]);
+    let tables = lent.of_port();
+    let mut decoding = Decoding::enough(&tables);
+    let lent = Encoded::of(&tables, [0; 4]);
     let lent = lent.lent();
-    let marks = encoded(posed.marks.iter().copied(), 0);
-    let slots = encoded(bits(&posed.slots), 0);
-    let mut walk = vec![0; 8 * taken];
-    let (mut places, mut worlds) = (vec![0; 4 * nodes], vec![0; 64 * nodes]);
+    let mut room = PlaceRoom {
+        walk: vec![0; 2 * taken],
+        codes: vec![0; nodes],
+        matrices: vec![0.0; 16 * nodes],
+        places: vec![0; 4 * nodes],
+        worlds: vec![0; 64 * nodes],
+    };
     let mut place = || {
         port::place(
             black_box(&lent),
-            &marks,
-            &slots,
-            &mut walk,
-            &mut places,
-            &mut worlds,
+            &mut decoding,
+            &posed.marks,
+            &posed.slots,
+            &mut room,
         )
     };
     assert_eq!(place(), Placed { number: 0, taken });

@@ -1,7 +1,7 @@
 //! `place` and `bake`, on a scene that is lent in bytes: little-endian words and
 //! floats.
 
-use super::{Baked, Header, Placed};
+use super::{BakeRoom, Baked, Header, Placed};
 
 /// A scene as it is lent in bytes.
 pub struct ByteTables<'a> {
@@ -12,14 +12,25 @@ pub struct ByteTables<'a> {
     pub header: Header,
 }
 
-/// What a bake writes to, in bytes.
-#[derive(Clone, Debug, PartialEq)]
-pub struct ByteRoom {
-    pub walk: Vec<u8>,
-    pub marks: Vec<u8>,
-    pub slots: Vec<u8>,
+/// What a scene is decoded into.
+#[derive(Clone)]
+pub struct Decoding {
+    pub words: Vec<u32>,
+    pub floats: Vec<f32>,
+}
+
+/// What a placing writes to, in numbers and in bytes.
+pub struct PlaceRoom {
+    pub walk: Vec<u32>,
+    pub codes: Vec<u32>,
+    pub matrices: Vec<f32>,
     pub places: Vec<u8>,
     pub worlds: Vec<u8>,
+}
+
+/// The outputs of a bake in bytes.
+#[derive(Clone, Debug, PartialEq)]
+pub struct ByteOutputs {
     pub positions: Vec<u8>,
     pub normals: Vec<u8>,
     pub tangents: Vec<u8>,
@@ -39,12 +50,20 @@ mod foreign {
             mesh_weights: *const u8,
             mesh_weights_len: usize,
             header: Header,
-            marks: *const u8,
+            word_room: *mut u32,
+            word_room_len: usize,
+            float_room: *mut f32,
+            float_room_len: usize,
+            marks: *const u32,
             marks_len: usize,
-            slots: *const u8,
+            slots: *const f32,
             slots_len: usize,
-            walk: *mut u8,
+            walk: *mut u32,
             walk_len: usize,
+            codes: *mut u32,
+            codes_len: usize,
+            matrices: *mut f32,
+            matrices_len: usize,
             places: *mut u8,
             places_len: usize,
             worlds: *mut u8,
@@ -62,16 +81,26 @@ mod foreign {
             header: Header,
             node: u32,
             time: u32,
-            marks: *mut u8,
+            word_room: *mut u32,
+            word_room_len: usize,
+            float_room: *mut f32,
+            float_room_len: usize,
+            marks: *mut u32,
             marks_len: usize,
-            slots: *mut u8,
+            slots: *mut f32,
             slots_len: usize,
-            walk: *mut u8,
+            walk: *mut u32,
             walk_len: usize,
-            places: *mut u8,
+            places: *mut u32,
             places_len: usize,
-            worlds: *mut u8,
+            worlds: *mut f32,
             worlds_len: usize,
+            position_floats: *mut f32,
+            position_floats_len: usize,
+            normal_floats: *mut f32,
+            normal_floats_len: usize,
+            tangent_floats: *mut f32,
+            tangent_floats_len: usize,
             positions: *mut u8,
             positions_len: usize,
             normals: *mut u8,
@@ -85,11 +114,10 @@ mod foreign {
 /// As `place_floats`. Answers 1, 2, 6 or 0.
 pub fn place(
     lent: &ByteTables,
-    marks: &[u8],
-    slots: &[u8],
-    walk: &mut [u8],
-    places: &mut [u8],
-    worlds: &mut [u8],
+    decoding: &mut Decoding,
+    marks: &[u32],
+    slots: &[f32],
+    room: &mut PlaceRoom,
 ) -> Placed {
     // SAFETY: the entry reads and writes inside what it is lent, whatever the
     // header and the bytes say.
@@ -104,22 +132,36 @@ pub fn place(
             lent.mesh_weights.as_ptr(),
             lent.mesh_weights.len(),
             lent.header,
+            decoding.words.as_mut_ptr(),
+            decoding.words.len(),
+            decoding.floats.as_mut_ptr(),
+            decoding.floats.len(),
             marks.as_ptr(),
             marks.len(),
             slots.as_ptr(),
             slots.len(),
-            walk.as_mut_ptr(),
-            walk.len(),
-            places.as_mut_ptr(),
-            places.len(),
-            worlds.as_mut_ptr(),
-            worlds.len(),
+            room.walk.as_mut_ptr(),
+            room.walk.len(),
+            room.codes.as_mut_ptr(),
+            room.codes.len(),
+            room.matrices.as_mut_ptr(),
+            room.matrices.len(),
+            room.places.as_mut_ptr(),
+            room.places.len(),
+            room.worlds.as_mut_ptr(),
+            room.worlds.len(),
         )
     }
 }
 
 /// As `bake_floats`, at the time with the given bit pattern.
-pub fn bake_bytes(lent: &ByteTables, node: u32, time: u32, room: &mut ByteRoom) -> Baked {
+pub fn bake_bytes(
+    lent: &ByteTables,
+    (node, time): (u32, u32),
+    decoding: &mut Decoding,
+    room: &mut BakeRoom,
+    outputs: &mut ByteOutputs,
+) -> Baked {
     // SAFETY: the entry reads and writes inside what it is lent, whatever the
     // header and the bytes say.
     unsafe {
@@ -135,6 +177,10 @@ pub fn bake_bytes(lent: &ByteTables, node: u32, time: u32, room: &mut ByteRoom) 
             lent.header,
             node,
             time,
+            decoding.words.as_mut_ptr(),
+            decoding.words.len(),
+            decoding.floats.as_mut_ptr(),
+            decoding.floats.len(),
             room.marks.as_mut_ptr(),
             room.marks.len(),
             room.slots.as_mut_ptr(),
@@ -151,6 +197,12 @@ pub fn bake_bytes(lent: &ByteTables, node: u32, time: u32, room: &mut ByteRoom) 
             room.normals.len(),
             room.tangents.as_mut_ptr(),
             room.tangents.len(),
+            outputs.positions.as_mut_ptr(),
+            outputs.positions.len(),
+            outputs.normals.as_mut_ptr(),
+            outputs.normals.len(),
+            outputs.tangents.as_mut_ptr(),
+            outputs.tangents.len(),
         )
     }
 }

@@ -1,7 +1,7 @@
 //! `sample` on bytes, compared with what `sample_floats` gives on the floats in
-//! them. NaN is written 7fc00000; a table of too many floats draws 2, where
-//! keys or values do not leave it; bytes past the last whole float of a slice
-//! count for nothing, and all that is not written stays as lent.
+//! them: whatever the decoding room, 1 to 5 stay, and a short one draws 6; after 0
+//! and 10 it holds the floats. NaN is written 7fc00000; bytes past the last whole
+//! float of a slice count for nothing, and all that is not written stays as lent.
 
 use crate::{
     port::{self, Told, Track},
@@ -9,13 +9,15 @@ use crate::{
     tally::{one_nan_bits, Met, Tally, UNTOUCHED},
 };
 
-/// The most floats of a table that the port decodes.
-pub const DECODED_LIMIT: usize = 65_536;
+/// The floats of a long table.
+const LONG_TABLE: usize = 70_000;
 const LENT: u8 = 0xa5;
+const SHORT_SCRATCH: u32 = 6;
+const SHORT_OUTPUT: u32 = 10;
 
 pub struct Comparison {
     tally: Tally<(usize, u32)>,
-    met: Met<7>,
+    met: Met<9>,
     rng: Rng,
 }
 
@@ -28,9 +30,11 @@ impl Comparison {
                 "weights",
                 "NaN",
                 "refused",
-                "too many floats",
+                "long tables",
                 "odd tables",
                 "odd rooms",
+                "short decoding room",
+                "lower than 6 with one",
             ]),
             rng: Rng::new(5),
         }
@@ -43,8 +47,12 @@ impl Comparison {
         for (bytes, x) in table.chunks_exact_mut(4).zip(track.floats) {
             bytes.copy_from_slice(&x.to_le_bytes());
         }
-        let floats = Answer::of_floats(track, time, len);
-        let bytes = Answer::of_bytes(track, &table, time, len);
+        let decoding = match self.rng.below(8) {
+            0 => track.floats.len().saturating_sub(1),
+            more => track.floats.len() + more as usize - 1,
+        };
+        let floats = Answer::of_floats(track, time, len, decoding);
+        let bytes = Answer::of_bytes(track, &table, time, len, decoding);
         self.met_answer(track, &floats);
         if table_odd > 0 {
             self.met.count(5);
@@ -58,22 +66,21 @@ impl Comparison {
         });
     }
 
-    /// Of a table that is just short enough and of one that is not: keys and
-    /// values at its ends, or one float past them.
-    pub fn count_at_limit(&mut self) {
-        for len in [DECODED_LIMIT, DECODED_LIMIT + 1] {
-            for (keys_at, values_at) in [(0, len - 3), (len, 0), (0, len - 2)] {
-                let track = Track {
-                    floats: &vec![0.5; len],
-                    kind: 0,
-                    interpolation: 0,
-                    keys_at,
-                    keys_count: 1,
-                    values_at,
-                    values_count: 1,
-                };
-                self.count(&track, 0.5, 0);
-                self.count(&track, f32::NAN, 0);
+    /// Of a long table: keys and values at its ends, or one float past them.
+    pub fn count_long(&mut self) {
+        let len = LONG_TABLE;
+        for (keys_at, values_at) in [(0, len - 3), (len, 0), (0, len - 2)] {
+            let track = Track {
+                floats: &vec![0.5; len],
+                kind: 0,
+                interpolation: 0,
+                keys_at,
+                keys_count: 1,
+                values_at,
+                values_count: 1,
+            };
+            for time in [0.5, 0.75, f32::NAN] {
+                self.count(&track, time, 0);
             }
         }
     }
@@ -86,8 +93,14 @@ impl Comparison {
         if answer.has_nan() {
             self.met.count(2);
         }
-        if track.floats.len() > DECODED_LIMIT {
+        if track.floats.len() == LONG_TABLE {
             self.met.count(4);
+        }
+        if answer.decoding.len() < track.floats.len() {
+            self.met.count(7);
+            if answer.told.number < SHORT_SCRATCH {
+                self.met.count(8);
+            }
         }
     }
 
@@ -99,31 +112,42 @@ impl Comparison {
     }
 }
 
-/// What a call answers, and leaves in the bytes that it is lent.
+/// What a call answers, and leaves in what it is lent, all NaNs being one.
 #[derive(Debug, PartialEq)]
 struct Answer {
     told: Told,
+    decoding: Vec<u32>,
     value: [u8; 16],
     out: Vec<u8>,
 }
 
 impl Answer {
-    fn refused(number: u32, len: usize) -> Self {
+    fn refused(number: u32, len: usize, decoding: usize) -> Self {
         Answer {
             told: Told { number, count: 0 },
+            decoding: vec![UNTOUCHED.to_bits(); decoding],
             value: [LENT; 16],
             out: vec![LENT; len],
         }
     }
 
-    fn of_floats(track: &Track, time: f32, len: usize) -> Self {
+    fn of_floats(track: &Track, time: f32, len: usize, decoding: usize) -> Self {
         let (mut value, mut out) = ([UNTOUCHED; 4], vec![UNTOUCHED; len / 4]);
         let told = port::sample(track, time, &mut value, &mut out);
-        if track.floats.len() > DECODED_LIMIT && told.number != 1 {
-            return Answer::refused(2, len);
+        let is_early = (1..SHORT_SCRATCH).contains(&told.number);
+        if decoding < track.floats.len() && !is_early {
+            return Answer::refused(SHORT_SCRATCH, len, decoding);
         }
-        let mut answer = Answer::refused(told.number, len);
+        let mut answer = Answer::refused(told.number, len, decoding);
         answer.told.count = told.count;
+        if told.number == 0 || told.number == SHORT_OUTPUT {
+            let floats = track.floats.iter().map(|x| one_nan_bits(*x));
+            answer
+                .decoding
+                .iter_mut()
+                .zip(floats)
+                .for_each(|(bits, x)| *bits = x);
+        }
         let numbers = match (told.number, track.kind) {
             (0, 0) => 3,
             (0, 1) => 4,
@@ -134,10 +158,18 @@ impl Answer {
         answer
     }
 
-    fn of_bytes(track: &Track, table: &[u8], time: f32, len: usize) -> Self {
-        let mut answer = Answer::refused(0, len);
-        let time = time.to_bits();
-        answer.told = port::sample_bytes(track, table, time, &mut answer.value, &mut answer.out);
+    fn of_bytes(track: &Track, table: &[u8], time: f32, len: usize, decoding: usize) -> Self {
+        let mut answer = Answer::refused(0, len, decoding);
+        let mut room = vec![UNTOUCHED; decoding];
+        answer.told = port::sample_bytes(
+            track,
+            table,
+            time.to_bits(),
+            &mut room,
+            &mut answer.value,
+            &mut answer.out,
+        );
+        answer.decoding = room.iter().map(|x| one_nan_bits(*x)).collect();
         answer
     }
 

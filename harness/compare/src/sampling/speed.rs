@@ -2,10 +2,7 @@
 //! does not: it is measured alone, and once more with the check that its track
 //! builders make.
 
-use super::{
-    on_bytes::DECODED_LIMIT,
-    tracks::{factor, keys_in_line, Track},
-};
+use super::tracks::{factor, keys_in_line, Track};
 use crate::{
     matrices::inputs::unit_quaternion,
     measure::side_by_side,
@@ -41,9 +38,7 @@ pub fn measure() {
             let end = (keys - 1) as f32 / 32.0;
             let times: Vec<f32> = repeat_with(|| end * rng.unit()).take(times).collect();
             measure_track(&format!("{keys} keys, {name}"), &track, &times);
-            if track.of_port().floats.len() <= DECODED_LIMIT {
-                measure_bytes("  on bytes, beside the Rust", &track, &times);
-            }
+            measure_bytes("  on bytes, beside the Rust", &track, &times);
         }
         measure_keys(keys);
     }
@@ -86,8 +81,10 @@ fn measure_track(name: &str, track: &Track, times: &[f32]) {
 fn measure_bytes(name: &str, track: &Track, times: &[f32]) {
     let lent = track.of_port();
     let table: Vec<u8> = lent.floats.iter().flat_map(|x| x.to_le_bytes()).collect();
+    let mut room = vec![0.0; lent.floats.len()];
     let (mut value, mut out) = ([0; 16], [0; 4 * WEIGHTS]);
-    let told = port::sample_bytes(&lent, &table, times[0].to_bits(), &mut value, &mut out);
+    let time = times[0].to_bits();
+    let told = port::sample_bytes(&lent, &table, time, &mut room, &mut value, &mut out);
     assert_eq!(told.number, 0, "{name}: the speed of a refusal");
     side_by_side(
         name,
@@ -96,7 +93,8 @@ fn measure_bytes(name: &str, track: &Track, times: &[f32]) {
             for time in times {
                 let time = time.to_bits();
                 let (value, out) = (black_box(&mut value), black_box(&mut out[..]));
-                black_box(port::sample_bytes(&lent, &table, time, value, out));
+                let room = black_box(&mut room);
+                black_box(port::sample_bytes(&lent, &table, time, room, value, out));
             }
         },
         || {

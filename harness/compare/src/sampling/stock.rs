@@ -102,7 +102,8 @@ fn past(rng: &mut Rng, len: usize) -> usize {
     ])
 }
 
-/// By each call, on floats and on bytes, at any time and with any room.
+/// By each call, on floats and on bytes, at any time and with any room; without
+/// any to decode into.
 fn is_refused(track: &port::Track, number: u32, rng: &mut Rng) -> bool {
     let time = rng.one_of(&[0.0, 0.5, f32::NAN]);
     let (mut value, mut out) = ([UNTOUCHED; 4], vec![UNTOUCHED; rng.below(9) as usize]);
@@ -123,6 +124,6 @@ fn is_refused_in_bytes(track: &port::Track, number_alone: Told, time: f32, room:
     const LENT: u8 = 0xa5;
     let table: Vec<u8> = track.floats.iter().flat_map(|x| x.to_le_bytes()).collect();
     let (mut value, mut out) = ([LENT; 16], vec![LENT; 4 * room]);
-    let told = port::sample_bytes(track, &table, time.to_bits(), &mut value, &mut out);
+    let told = port::sample_bytes(track, &table, time.to_bits(), &mut [], &mut value, &mut out);
     told == number_alone && value.iter().chain(&out).all(|x| *x == LENT)
 }

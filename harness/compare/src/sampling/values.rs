@@ -40,7 +40,7 @@ pub fn compare() -> bool {
             comparison.count_times(&track, &mut rng);
         }
     }
-    comparison.on_bytes.count_at_limit();
+    comparison.on_bytes.count_long();
     comparison.report()
 }
 
