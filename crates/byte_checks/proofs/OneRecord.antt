@@ -1,8 +1,8 @@
 -- A record in bytes: where its bytes lie, and that it draws by itself what it draws in its table. Assumes nothing.
-use mathlib.Core.Path.{_≡_, refl, sym, ap, _∙_, subst}
-use mathlib.Core.Bool.{Bool, true, false}
+use mathlib.Core.Path.{_≡_, sym, ap, _∙_, subst}
+use mathlib.Core.Bool.{true}
 use mathlib.Core.List.{List}
-use Prim.Native.Nat.{ℕ, _+_, _*_, _/_, _≤_, _<_}
+use Prim.Native.Nat.{ℕ, _+_, _*_, _/_, _≤_}
 use native.Mathlib.Nat.{mul-le-mul, le-refl, add-mul}
 use native.Mathlib.Omega.{arith}
 use borrow.Author.Tests.{leb-true}
@@ -33,7 +33,7 @@ use Rattle.row_checks.specs.Bounds.{nodeWithin, tagsKnown, meshWithin, primitiv
 use Rattle.checks.specs.declared.Table.{Table}
 use Rattle.checks.specs.declared.Table.the-variants as table
 use Rattle.checks.specs.Drawn.{drawn, lowerOf, nodeNumber, channelNumber, meshNumber, primitiveNumber, targetNumber, inBetweenNumber, skinNumber, skeletonNumber, rowNumber, recordWords}
-use Rattle.byte_checks.specs.Bytes.{TableThere, RecordThere}
+use Rattle.byte_checks.specs.Bytes.{RecordThere}
 
 -- ---- where it lies
 few-words : (k : Table) → recordWords k ≤ 16

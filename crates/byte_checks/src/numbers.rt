@@ -1,3 +1,4 @@
+// What the tables draw: 1, 2 or 0, as `checks` says it of a scene in words.
 use crate::records::child_count;
 use crate::records::rows_number;
 use checks::Table;
@@ -40,6 +41,7 @@ fn child_entries(words: &[u8], nodes: Part) -> usize
     sum
 }
 
+// What they draw.
 fn children_number(words: &[u8], nodes: Part) -> u32
     requires { ⌜ TableThere (now words) nodes table.Nodes ⌝ }
     ensures { λ r. ⌜ r ≡ childrenNumber (wordsIn (now (words .entry))) nodes ⌝ }

@@ -3,7 +3,6 @@ use mathlib.Core.Path.{_≡_, sym, ap, _∙_}
 use mathlib.Core.List.{List}
 use Prim.Native.Nat.{ℕ}
 use lib.Ieee.{Float}
-use lib.ListN.{length}
 use Rattle.row_checks.specs.declared.Sizes.{Sizes}
 use Rattle.checks.specs.Drawn.{ByCount}
 

@@ -146,6 +146,7 @@ childCount words nodes i = nodeRow words nodes i .children .count
 abbrev pub cappedEntries : List ℕ → Part → ℕ
 cappedEntries words nodes = min (sumBelow (nodes .count) (childCount words nodes)) entryCap
 
+-- over size where there are more than 8,192
 abbrev pub entriesNumber : ℕ → ℕ
 entriesNumber entries = drawn true (leb entries childEntryLimit)
 
@@ -160,6 +161,7 @@ listedNumber words floats s h =
     lowerOf (n table.Channels) (lowerOf (n table.Meshes) (lowerOf (n table.Primitives) (lowerOf (n table.Targets)
     (lowerOf (n table.InBetweens) (lowerOf (n table.Skins) (n table.Skeletons))))))
 
+-- the lengths of the slices, and of the tables whose records others list
 abbrev pub sizesFor : ℕ → ℕ → ℕ → ℕ → Header → Sizes
 sizesFor words floats nodeWeights meshWeights h = record {
   words = words;

@@ -107,12 +107,14 @@ pub fn entries_number(entries: usize) -> u32
     drawn(true, entries <= CHILD_ENTRY_LIMIT)
 }
 
+// What the child entries of all nodes draw.
 fn children_number(words: &[u32], nodes: Part) -> u32
     ensures { λ r. ⌜ r ≡ childrenNumber (now (words .entry)) nodes ⌝ }
 {
     entries_number(child_entries(words, nodes))
 }
 
+// What the roots draw by their place and their count.
 pub fn roots_number(len: usize, roots: Part) -> u32
     ensures { λ r. ⌜ r ≡ rootsNumber len roots ⌝ }
 {

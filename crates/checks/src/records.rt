@@ -47,6 +47,7 @@ pub fn lower(a: u32, b: u32) -> u32
     if a < b { a } else { b }
 }
 
+// Where a table lies.
 pub fn table_of(h: Header, k: Table) -> Part
     ensures { λ r. ⌜ r ≡ tableOf h k ⌝ }
 {

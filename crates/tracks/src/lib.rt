@@ -6,7 +6,6 @@ mod numbers;
 
 pub use keys::keys_in_line;
 pub use layout::centre;
-pub use layout::even_stride;
 pub use layout::factor;
 pub use layout::fits;
 pub use layout::track_stride;

@@ -1,7 +1,7 @@
 -- `byte_tracks::keys_in_line` meets its contract. Assumes nothing.
 use mathlib.Core.Path.{_≡_, refl, sym, ap, _∙_, subst}
-use mathlib.Core.Bool.{Bool, _&&_}
-use Prim.Native.Nat.{ℕ, _-_, _+_, _/_}
+use mathlib.Core.Bool.{_&&_}
+use Prim.Native.Nat.{_-_, _+_, _/_}
 use native.Mathlib.Omega.{arith}
 use borrow.Author.Needs.{needs}
 use denote.Ref.{now}

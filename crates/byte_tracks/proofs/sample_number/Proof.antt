@@ -1,41 +1,23 @@
 -- `byte_tracks::sample_number` meets its contract. Assumes nothing.
 use mathlib.Core.Path.{_≡_, refl, sym, ap, _∙_}
-use mathlib.Core.Bool.{Bool, true, false, true≢false, not, _&&_, _||_}
-use mathlib.Core.List.{List}
-use Prim.Native.Nat.{ℕ}
+use mathlib.Core.Bool.{Bool, true, false, not}
 use native.Mathlib.Omega.{arith}
 use borrow.Author.Needs.{needs}
 use borrow.Author.Tests.{not-true, not-false}
 use denote.Ref.{now}
-use lib.Dec.{ltb}
-use lib.Ieee.{Float, binary32, ofBits}
-use lib.ListN.{length}
+use lib.Ieee.{binary32, ofBits}
 use Rattle.model.specs.Lists.{pick}
-use Rattle.model.specs.Limits.{keyLimit, weightLimit}
-use Rattle.model.specs.Sampling.{even, stride, inLine}
-use Rattle.model.specs.Refusals.{isScalars, sampleNumber}
-use Rattle.model.proofs.Numbers.{shortFor, sample-drawn, sample-tests}
+use Rattle.model.specs.Limits.{weightLimit}
+use Rattle.model.specs.Sampling.{inLine}
+use Rattle.model.specs.Refusals.{sampleNumber}
+use Rattle.model.proofs.Numbers.{sample-drawn, sample-tests}
 use Rattle.wire.specs.Bytes.{floatsIn}
 use Rattle.wire.proofs.Reading as reading
-use Rattle.tracks.specs.declared.Track.{Track}
 use Rattle.tracks.specs.Tracks.{trackIn, tableNumber, strideIn}
 use Rattle.tracks.proofs.Drawn.{Clear, clear, stride-is, no-stride, some-stride}
+use Rattle.byte_tracks.proofs.NumberLaws.{roomy}
 use Rattle.byte_tracks.proofs.sample_number.Statement.{statement}
 use Rattle.byte_tracks.proofs.sample_number.Tie as tie
-
--- an even track that is not over size has room for its weights
-roomy : (floats : List Float) (t : Track) (time : Float) → tableNumber floats t ≡ 0 → even (trackIn floats t) ≡ true
-    → shortFor (trackIn floats t) time weightLimit ≡ false
-roomy floats t time z e =
-    let tr = trackIn floats t in
-    go (ltb keyLimit (length (tr .keys))) (isScalars (tr .kind)) (even tr) (ltb weightLimit (stride tr))
-    (clear floats t z .within) e
-  where
-    go : (p s e l : Bool) → (p || (s && e && l)) ≡ false → e ≡ true → (s && l) ≡ false
-    go true s e l h q = absurd (true≢false h)
-    go false true true l h q = h
-    go false true false l h q = absurd (true≢false (sym q))
-    go false false e l h q = refl
 
 -- what the table draws
 told : (c : tie.After-number-in)
