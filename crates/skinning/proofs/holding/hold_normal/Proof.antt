@@ -14,7 +14,11 @@ load3-requires : tie.Need-load3-requires
 load3-requires c κs = let s = c .before .before .before in omega (arith, row-ends 3 (now (s .args .normals)) (s .args .v) (s .pre .1 (c .if1 .taken)))
 
 returns : tie.Need-returns
-returns c = search (needs, held-normal)
+returns c =
+    let d = c .before .before .before in
+    let a = d .before .before .before .before .before .before .before .args in
+    held-normal (a .whole) (a .m .m) (now (a .normals)) (a .v) (a .i) (now (a .held)) _ (d .before .linear-inverse-transpose .result) _ _
+    (d .before .linear-inverse-transpose .ensures) (d .before .before .before .load3 .ensures) (d .direction .ensures) (c .before .before .store3 .ensures)
 
 returns-2 : tie.Need-returns-2
 returns-2 c = held-not _ _ _ _ (c .if1 .left)

@@ -5,7 +5,9 @@ use Rattle.vertex_rows.proofs.positions.project_position.Statement.{sta
 use Rattle.vertex_rows.proofs.positions.project_position.Tie as tie
 
 returns : tie.Need-returns
-returns c = search (needs, row-changed)
+returns c =
+    let p = c .before .before .before in
+    row-changed 3 _ _ _ _ _ _ (p .before .before .before .before .if1 .taken) (c .before .before .store3 .ensures) (p .transform-point .ensures) (p .before .before .load3 .ensures)
 
 returns-2 : tie.Need-returns-2
 returns-2 c = search (needs, row-absent)
