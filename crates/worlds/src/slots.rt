@@ -13,14 +13,15 @@ pub(crate) fn wide(x: u32) -> usize
     x as usize
 }
 
-// The world of what a node is placed under, by the code of its place.
-fn world_above(worlds: &[f32], code: u32) -> Mat4
-    ensures { λ r. ⌜ r .m ≡ aboveIn (now (worlds .entry)) code ⌝ }
+// The world of a node, by the code of its place: the world of what it is placed under times its local matrix. A root's
+// product with the identity is done too.
+fn world_at(worlds: &[f32], code: u32, local: Mat4) -> Mat4
+    ensures { λ r. ⌜ r .m ≡ mul (aboveIn (now (worlds .entry)) code) (local .m) ⌝ }
 {
     if code < 3 {
-        return scene::identity();
+        return scene::mat4_mul(scene::identity(), local);
     }
-    scene::load(worlds, wide(code - 3) * 16)
+    scene::mat4_mul(scene::load(worlds, wide(code - 3) * 16), local)
 }
 
 // Writes the world of node i, with the code of its place and its local matrix.
@@ -29,6 +30,6 @@ pub(crate) fn place_one(worlds: &mut [f32], i: u32, code: u32, local: Mat4)
         (paste (now (worlds .entry)) (i * 16) (mul (aboveIn (now (worlds .entry)) code) (local .m)) 16)
         (now (worlds .entry)) ⌝ }
 {
-    let world = scene::mat4_mul(world_above(worlds, code), local);
+    let world = world_at(worlds, code, local);
     scene::store(worlds, wide(i) * 16, world);
 }
