@@ -1,0 +1,4 @@
+pub mod Decoded
+pub mod Agreed
+pub mod Accepted
+pub mod Witnessed

@@ -1,0 +1,162 @@
+-- One scene of two makers, before and after the other maker's changes: scope, "Two makers, one scene". Node 2 is the
+-- one that is asked for: it is skinned, its joint is node 1, which stands under node 0, and both have a track. Node 3
+-- is the other maker's. Definitions only.
+use mathlib.Core.Path.{_≡_}
+use mathlib.Core.List.{List, [], _∷_, _++_}
+use mathlib.Core.Option.{Option, none, some}
+use Prim.Native.Nat.{ℕ}
+use lib.Ieee.{Float}
+use Rattle.float.specs.F32.{f32, zero32, one32}
+use Rattle.model.specs.Vector.{Vector}
+use Rattle.model.specs.Matrix.{Matrix}
+use Rattle.model.specs.Transform.{Transform, parts, matrix}
+use Rattle.model.specs.Scene.{Node, Track, translation, scale, morphWeights, vec3s, scalars, step, linear}
+use Rattle.model.specs.Scene.{Primitive, Mesh, Skin, Skeleton, Scene, nodeAt}
+
+abbrev pub half32 : Float
+half32 = f32 0x3f00_0000
+
+abbrev pub two32 : Float
+two32 = f32 0x4000_0000
+
+abbrev pub four32 : Float
+four32 = f32 0x4080_0000
+
+abbrev pub vector : Float → Float → Float → Vector
+vector x y z = x ∷ y ∷ z ∷ []
+
+-- a move along x, as a matrix and as parts
+abbrev pub moved : Float → Matrix
+moved x =
+    one32 ∷ zero32 ∷ zero32 ∷ x
+    ∷ zero32 ∷ one32 ∷ zero32 ∷ zero32
+    ∷ zero32 ∷ zero32 ∷ one32 ∷ zero32
+    ∷ zero32 ∷ zero32 ∷ zero32 ∷ one32 ∷ []
+
+abbrev pub still : Vector
+still = zero32 ∷ zero32 ∷ zero32 ∷ one32 ∷ []
+
+abbrev pub movedParts : Float → Transform
+movedParts x =
+    parts (record { translation = vector x zero32 zero32; rotation = still; scale = vector one32 one32 one32 })
+
+-- ---- what is the same in both
+
+-- one vertex, which follows the first joint with its whole weight
+abbrev pub blade : Mesh
+blade = record {
+  primitives = record {
+    positions = vector one32 zero32 zero32 ∷ [];
+    normals = none;
+    tangents = none;
+    joints = some ((0 ∷ 0 ∷ 0 ∷ 0 ∷ []) ∷ []);
+    weights = some ((one32 ∷ zero32 ∷ zero32 ∷ zero32 ∷ []) ∷ []);
+    targets = [];
+  } ∷ [];
+  weights = [];
+}
+
+abbrev pub bones : Skeleton
+bones = record { joints = 1 ∷ []; inverseBinds = moved zero32 ∷ [] }
+
+abbrev pub stand : Node
+stand = record { base = matrix (moved two32); children = 1 ∷ []; mesh = none; skin = none; weights = none }
+
+abbrev pub joint : Node
+joint = record { base = movedParts zero32; children = []; mesh = none; skin = none; weights = none }
+
+-- the asked node; mesh and skin have other numbers before and after
+abbrev pub asked : ℕ → ℕ → Node
+asked mesh skin =
+    record { base = movedParts zero32; children = []; mesh = some mesh; skin = some skin; weights = none }
+
+-- the joint moves by 2 along x in one second
+abbrev pub jointTrack : Track
+jointTrack = record {
+  target = 1;
+  property = translation;
+  kind = vec3s;
+  interpolation = linear;
+  keys = zero32 ∷ one32 ∷ [];
+  values = vector zero32 zero32 zero32 ++ vector two32 zero32 zero32;
+}
+
+abbrev pub askedTrack : Track
+askedTrack = record {
+  target = 2;
+  property = scale;
+  kind = vec3s;
+  interpolation = step;
+  keys = zero32 ∷ [];
+  values = vector two32 two32 two32;
+}
+
+-- ---- the other maker's, before and after
+
+abbrev pub bare : List Vector → Primitive
+bare l = record { positions = l; normals = none; tangents = none; joints = none; weights = none; targets = [] }
+
+abbrev pub theirMesh₁ : Mesh
+theirMesh₁ = record { primitives = bare (vector zero32 zero32 two32 ∷ []) ∷ []; weights = [] }
+
+abbrev pub theirMesh₂ : Mesh
+theirMesh₂ =
+    record { primitives = bare (vector one32 one32 one32 ∷ vector two32 two32 two32 ∷ []) ∷ []; weights = [] }
+
+abbrev pub theirs₁ : Node
+theirs₁ = record { base = matrix (moved one32); children = []; mesh = some 1; skin = none; weights = none }
+
+abbrev pub theirs₂ : Node
+theirs₂ =
+    record { base = movedParts two32; children = []; mesh = some 0; skin = some 0; weights = some (one32 ∷ []) }
+
+abbrev pub theirTrack₁ : Track
+theirTrack₁ = record {
+  target = 3;
+  property = morphWeights;
+  kind = scalars;
+  interpolation = step;
+  keys = zero32 ∷ [];
+  values = one32 ∷ [];
+}
+
+abbrev pub theirTrack₂ : Track
+theirTrack₂ = record {
+  target = 3;
+  property = translation;
+  kind = vec3s;
+  interpolation = step;
+  keys = zero32 ∷ [];
+  values = vector one32 one32 one32;
+}
+
+-- ---- the scene before and after
+
+abbrev pub before : Scene
+before = record {
+  nodes = stand ∷ joint ∷ asked 0 0 ∷ theirs₁ ∷ [];
+  roots = 0 ∷ 2 ∷ 3 ∷ [];
+  tracks = jointTrack ∷ askedTrack ∷ theirTrack₁ ∷ [];
+  meshes = blade ∷ theirMesh₁ ∷ [];
+  skins = record { skeleton = 0; root = none } ∷ [];
+  skeletons = bones ∷ [];
+}
+
+abbrev pub after : Scene
+after = record {
+  nodes = stand ∷ joint ∷ asked 1 1 ∷ theirs₂ ∷ [];
+  roots = 0 ∷ 2 ∷ 3 ∷ [];
+  tracks = theirTrack₂ ∷ jointTrack ∷ askedTrack ∷ [];
+  meshes = theirMesh₂ ∷ blade ∷ [];
+  skins = record { skeleton = 0; root = none } ∷ record { skeleton = 1; root = some 0 } ∷ [];
+  skeletons = record { joints = 3 ∷ []; inverseBinds = [] } ∷ bones ∷ [];
+}
+
+-- no table of the one is that of the other, and the other maker's node has another base transform
+pub record Apart (s₁ s₂ : Scene) : Type 0 where
+  pub nodes : s₁ .nodes ≡ s₂ .nodes → ⊥
+  pub base : nodeAt s₁ 3 .base ≡ nodeAt s₂ 3 .base → ⊥
+  pub tracks : s₁ .tracks ≡ s₂ .tracks → ⊥
+  pub meshes : s₁ .meshes ≡ s₂ .meshes → ⊥
+  pub skins : s₁ .skins ≡ s₂ .skins → ⊥
+  pub skeletons : s₁ .skeletons ≡ s₂ .skeletons → ⊥
