@@ -17,7 +17,6 @@ pub mod Orders
 pub mod Located
 pub mod Sampled
 pub mod Ancestors
-pub mod Shared
 pub mod Differences
 pub mod Turns
 pub mod Alike
