@@ -1,4 +1,5 @@
-// Runs the line of the scope's "From the blade bench" that has no star, on a scene that is lent in words (docs/TABLES.md).
+// Runs the line of the scope's "From the blade bench" that has no star, on a scene that is lent in words
+// (docs/TABLES.md).
 use libc::STDOUT_FILENO;
 use lists::text;
 use skin_roots::Root;
@@ -8,8 +9,8 @@ use tables::Meshes;
 use tables::Skins;
 use tracks::Part;
 
-// The first listing: root 0; 0 lists 1, 2; 1 lists 2. Skin 0 has the joints 1, 2, and skin 1 the joint 1: the words of node
-// 0's children serve for all of these lists. What is not set is 0.
+// The first listing: root 0; 0 lists 1, 2; 1 lists 2. Skin 0 has the joints 1, 2, and skin 1 the joint 1: the words of
+// node 0's children serve for all of these lists. What is not set is 0.
 fn first_listing() -> [u32; 67] {
     let mut words = [0u32; 67];
     // Children of nodes 0 and 1.

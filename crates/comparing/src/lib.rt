@@ -1,4 +1,5 @@
-// What was found beside what is right, which is handed in as bits: for the programs that replay lists of the Rust's answers.
+// What was found beside what is right, which is handed in as bits: for the programs that replay lists of the Rust's
+// answers.
 ghost use mathlib.Core.Path.{_≡_};
 ghost use Rattle.comparing.specs.Near.{sameBits, nearBy};
 ghost use Rattle.comparing.specs.Compared.{oneMore, agreeing, ofLengths, compared, sameWords, sameFloats};

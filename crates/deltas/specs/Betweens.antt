@@ -17,7 +17,8 @@ use Rattle.deltas.specs.declared.Station.{Station}
 use Rattle.deltas.specs.Deltas.{lentIn}
 
 abbrev pub betweensIn : List ℕ → List Float → Header → Part → List InBetween
-betweensIn words floats h betweens = recordsIn (λ i. inBetweenOf (lentIn words floats h) (inBetweenRow words (h .meshes .«in_betweens») i)) betweens
+betweensIn words floats h betweens =
+    recordsIn (λ i. inBetweenOf (lentIn words floats h) (inBetweenRow words (h .meshes .«in_betweens») i)) betweens
 
 abbrev pub stationAt : List ℕ → List Float → Header → Part → ℕ → Station
 stationAt words floats h betweens k =

@@ -1,4 +1,5 @@
-// What morph targets add: their deltas, read from lent slices and added to others, and their in-betweens, read one by one.
+// What morph targets add: their deltas, read from lent slices and added to others, and their in-betweens, read one by
+// one.
 use tables::Slot;
 
 mod adding;

@@ -15,7 +15,8 @@ ghost use lib.Ieee.Scale.{finite};
 ghost use Rattle.float.specs.Narrow.{narrowOf};
 ghost use Rattle.model.specs.Lists.{every};
 ghost use Rattle.model.specs.Matrix.{invertible, cofactors, inverseTranspose};
-ghost use Rattle.model.specs.Inverse.{apart, affine, cofactors64, determinant64, inverseRow, inverseFrom, translationOf, affineInverse, normalMatrix};
+ghost use Rattle.model.specs.Inverse.{apart, affine, cofactors64, determinant64, inverseRow, inverseFrom};
+ghost use Rattle.model.specs.Inverse.{translationOf, affineInverse, normalMatrix};
 ghost use Rattle.scene.specs.Values.{quat, mat3, mat4, linearOf, inverseOf};
 ghost use Rattle.inverse.specs.Wide.{wideVec, wide3};
 

@@ -1,4 +1,5 @@
--- When two versions of a shared scene agree on a node, and what then follows: demand 3; scope, "Two makers, one scene". Definitions only.
+-- When two versions of a shared scene agree on a node, and what then follows: demand 3; scope, "Two makers, one scene".
+-- Definitions only.
 use mathlib.Core.Path.{_≡_}
 use mathlib.Core.List.{List, [], _∷_, List·Memᴰ}
 use mathlib.Core.Option.{Option, none, some}
@@ -40,8 +41,9 @@ abbrev pub jointsOf : Option Skeleton → List ℕ
 jointsOf none = []
 jointsOf (some t) = t .joints
 
--- The node i with its mesh, skin and skeleton, its joints, and all above these. What an id names is `none` where it names nothing: two such
--- ids need not be the same number, and of a skin the joints and inverse binds count, not its named root or its skeleton's number.
+-- The node i with its mesh, skin and skeleton, its joints, and all above these. What an id names is `none` where it
+-- names nothing: two such ids need not be the same number, and of a skin the joints and inverse binds count, not its
+-- named root or its skeleton's number.
 pub record Agree (s₁ s₂ : Scene) (i : ℕ) : Type 0 where
   pub listing : SameListing s₁ s₂
   pub mesh : meshAt s₁ i ≡ meshAt s₂ i
@@ -55,9 +57,13 @@ pub record Agree (s₁ s₂ : Scene) (i : ℕ) : Type 0 where
 abbrev pub Past6 : Outcome → Type 0
 Past6 o = 1 ≤ o .answer .refusal → o .answer .refusal ≤ 6 → ⊥
 
--- What two runs show: the whole answer, and each output up to the length that the answer gives for it, whatever the outputs held on entry.
+-- What two runs show: the whole answer, and each output up to the length that the answer gives for it, whatever the
+-- outputs held on entry.
 pub record SameBake (o₁ o₂ : Outcome) (lent₁ lent₂ : Output) : Type 0 where
   pub answer : o₁ .answer ≡ o₂ .answer
-  pub positions : take (o₁ .answer .positions) (written (o₁ .output .positions) (lent₁ .positions)) ≡ take (o₂ .answer .positions) (written (o₂ .output .positions) (lent₂ .positions))
-  pub normals : take (o₁ .answer .normals) (written (o₁ .output .normals) (lent₁ .normals)) ≡ take (o₂ .answer .normals) (written (o₂ .output .normals) (lent₂ .normals))
-  pub tangents : take (o₁ .answer .tangents) (written (o₁ .output .tangents) (lent₁ .tangents)) ≡ take (o₂ .answer .tangents) (written (o₂ .output .tangents) (lent₂ .tangents))
+  pub positions : take (o₁ .answer .positions) (written (o₁ .output .positions) (lent₁ .positions))
+      ≡ take (o₂ .answer .positions) (written (o₂ .output .positions) (lent₂ .positions))
+  pub normals : take (o₁ .answer .normals) (written (o₁ .output .normals) (lent₁ .normals))
+      ≡ take (o₂ .answer .normals) (written (o₂ .output .normals) (lent₂ .normals))
+  pub tangents : take (o₁ .answer .tangents) (written (o₁ .output .tangents) (lent₁ .tangents))
+      ≡ take (o₂ .answer .tangents) (written (o₂ .output .tangents) (lent₂ .tangents))

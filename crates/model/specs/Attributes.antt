@@ -29,7 +29,8 @@ abbrev pub overRows : ℕ → List Vector → List Float → List Float
 overRows w rows lent = joined (λ r. r) rows ++ drop (length lent / w * w) lent
 
 -- three slices after a call that changes the vertices in them
-pub record Reshaped (s : Shape) (lentPositions leftPositions lentNormals leftNormals lentTangents leftTangents : List Float) : Type 0 where
+pub record Reshaped (s : Shape)
+    (lentPositions leftPositions lentNormals leftNormals lentTangents leftTangents : List Float) : Type 0 where
   pub positions : leftPositions ≡ overRows 3 (s .positions) lentPositions
   pub normals : leftNormals ≡ overRows 3 (s .normals) lentNormals
   pub tangents : leftTangents ≡ overRows 4 (s .tangents) lentTangents

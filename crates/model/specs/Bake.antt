@@ -59,7 +59,8 @@ written result lent = result ++ drop (length result) lent
 -- ---- a primitive
 
 -- with a palette, and joints and weights present: skinned; otherwise transformed
-unfoldable pub placedShape : Matrix → Option (List Matrix) → Option (List (List ℕ)) → Option (List Vector) → Primitive → Shape
+unfoldable pub placedShape : Matrix → Option (List Matrix) → Option (List (List ℕ)) → Option (List Vector)
+    → Primitive → Shape
 placedShape world none js ws p = transformed world p
 placedShape world (some palette) none ws p = transformed world p
 placedShape world (some palette) (some js) none p = transformed world p
@@ -89,16 +90,28 @@ paletteWith world false k = some none
 paletteWith world true k = andThen k (λ (t : Skeleton). andThen (paletteOf world t) (λ ms. some (some ms)))
 
 abbrev pub fits : Request → Output → Bool
-fits r o = leb (length (o .positions)) (r .positionRoom) && leb (length (o .normals)) (r .normalRoom) && leb (length (o .tangents)) (r .tangentRoom)
+fits r o =
+    leb (length (o .positions)) (r .positionRoom) && leb (length (o .normals)) (r .normalRoom)
+    && leb (length (o .tangents)) (r .tangentRoom)
 
 unfoldable pub delivered : Request → ℕ → Output → Outcome
 delivered r n o =
     pick (fits r o)
-    (record { answer = record { refusal = 0; positions = length (o .positions); normals = length (o .normals); tangents = length (o .tangents); taken = n }; output = o })
+    (record {
+      answer = record {
+        refusal = 0;
+        positions = length (o .positions);
+        normals = length (o .normals);
+        tangents = length (o .tangents);
+        taken = n;
+      };
+      output = o;
+    })
     (refused (number shortOutput))
 
 -- the lowest number of 7 to 10 that applies, or the result
-unfoldable pub judged : Request → ℕ → Option (List Float) → Option (List Float) → Option Mesh → Option Matrix → Option (Option (List Matrix)) → Outcome
+unfoldable pub judged : Request → ℕ → Option (List Float) → Option (List Float) → Option Mesh → Option Matrix
+    → Option (Option (List Matrix)) → Outcome
 judged r n posed own none world palette = refused (number noSuchNode)
 judged r n posed own (some mesh) none palette = refused (number unplacedNode)
 judged r n posed own (some mesh) (some world) none = refused (number noPalette)
@@ -109,7 +122,8 @@ judged r n posed own (some mesh) (some world) (some palette) =
 unfoldable pub bakedFrom : List Pose → Scene → Request → Outcome
 bakedFrom ps s r =
     let ws = worlds ps s in
-    judged r (taken s) (poseAt ps (r .node) .weights) (nodeAt s (r .node) .weights) (meshAt s (r .node)) (worldAt ws (r .node))
+    judged r (taken s) (poseAt ps (r .node) .weights) (nodeAt s (r .node) .weights) (meshAt s (r .node))
+    (worldAt ws (r .node))
     (paletteWith (worldAt ws) (isSome (nodeAt s (r .node) .skin)) (skeletonAt s (r .node)))
 
 unfoldable pub bakedAfter : ℕ → Scene → Request → Outcome

@@ -1,5 +1,5 @@
--- What the calls on a single track answer, and what they leave in a lent slice: scope, "The sampled value" and "Numbers when a piece is turned
--- down". Definitions only.
+-- What the calls on a single track answer, and what they leave in a lent slice: scope, "The sampled value" and "Numbers
+-- when a piece is turned down". Definitions only.
 use mathlib.Core.Bool.{Bool}
 use mathlib.Core.List.{List, [], _++_}
 use Prim.Native.Nat.{ℕ, zero, suc}
@@ -11,7 +11,8 @@ use Rattle.model.specs.Scene.{Kind, vec3s, quats, scalars, Track}
 use Rattle.model.specs.Sampling.{even, stride, locate, valueAt, frame, cubicFrame}
 use Rattle.model.specs.Refusals.{isScalars, sampleNumber, frameNumber}
 
--- the refusal number or 0; a Vec3 or Quat that is answered; how many weights of a scalar track were written, and the slice that they were written to
+-- the refusal number or 0; a Vec3 or Quat that is answered; how many weights of a scalar track were written, and the
+-- slice that they were written to
 pub record Sampled : Type 0 where
   pub number : ℕ
   pub value : Vector

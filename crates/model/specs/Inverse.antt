@@ -1,5 +1,5 @@
--- The inverse of an affine matrix, worked out in f64 and narrowed (`mat4_affine_inverse` of scene.rs), and the normal matrix that comes of
--- it. Definitions only.
+-- The inverse of an affine matrix, worked out in f64 and narrowed (`mat4_affine_inverse` of scene.rs), and the normal
+-- matrix that comes of it. Definitions only.
 use mathlib.Core.List.{List, [], _∷_, _++_, map}
 use mathlib.Core.Bool.{Bool, not, _&&_, _||_}
 use mathlib.Core.Option.{Option, none}
@@ -21,7 +21,8 @@ apart x = lt (f32 0x3586_37bd) x || lt x (neg (f32 0x3586_37bd))
 abbrev pub affine : Matrix → Bool
 affine m =
     every finite m
-    && not (apart (entry m 3 0) || apart (entry m 3 1) || apart (entry m 3 2) || apart (sub binary32 (entry m 3 3) one32))
+    && not
+    (apart (entry m 3 0) || apart (entry m 3 1) || apart (entry m 3 2) || apart (sub binary32 (entry m 3 3) one32))
 
 -- the nine cofactors of a linear part, row by row
 unfoldable pub cofactors64 : List Float → List Float
@@ -41,7 +42,8 @@ determinant64 l c = at l 0 ⊗ at c 0 ⊕ at l 1 ⊗ at c 1 ⊕ at l 2 ⊗ at c 
 abbrev pub column3 : List Float → ℕ → Vector
 column3 c j = at c j ∷ at c (3 + j) ∷ at c (6 + j) ∷ []
 
--- a row of the inverse, from a column of the cofactors, r = 1 / determinant and the translation: the column times r, and the translation undone
+-- a row of the inverse, from a column of the cofactors, r = 1 / determinant and the translation: the column times r,
+-- and the translation undone
 unfoldable pub inverseRow : Vector → Float → Vector → Vector
 inverseRow v r t =
     let x = at v 0 ⊗ r in let y = at v 1 ⊗ r in let z = at v 2 ⊗ r in

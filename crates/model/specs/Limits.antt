@@ -1,4 +1,5 @@
--- The most that a call takes: scope, "Numbers when a piece is turned down". Above a limit is over size, 2. Definitions only.
+-- The most that a call takes: scope, "Numbers when a piece is turned down". Above a limit is over size, 2. Definitions
+-- only.
 use Prim.Native.Nat.{ℕ}
 
 abbrev pub nodeLimit : ℕ

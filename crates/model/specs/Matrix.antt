@@ -1,5 +1,5 @@
--- Matrices: sixteen f32 values row by row, the translation in the fourth column. (glTF 2.0, 3.6.2 stores them column by column.)
--- The order of operations is that of scene.rs, skinning.rs and transform.rs. Definitions only.
+-- Matrices: sixteen f32 values row by row, the translation in the fourth column. (glTF 2.0, 3.6.2 stores them column by
+-- column.) The order of operations is that of scene.rs, skinning.rs and transform.rs. Definitions only.
 use mathlib.Core.List.{List, [], _∷_, _++_}
 use mathlib.Core.Bool.{Bool, not, _&&_}
 use mathlib.Core.Option.{Option, none, some}
@@ -28,7 +28,11 @@ abbrev pub bottomRow : Vector
 bottomRow = zero32 ∷ zero32 ∷ zero32 ∷ one32 ∷ []
 
 abbrev pub identity : Matrix
-identity = one32 ∷ zero32 ∷ zero32 ∷ zero32 ∷ zero32 ∷ one32 ∷ zero32 ∷ zero32 ∷ zero32 ∷ zero32 ∷ one32 ∷ zero32 ∷ bottomRow
+identity =
+    one32 ∷ zero32 ∷ zero32 ∷ zero32
+    ∷ zero32 ∷ one32 ∷ zero32 ∷ zero32
+    ∷ zero32 ∷ zero32 ∷ one32 ∷ zero32
+    ∷ bottomRow
 
 -- the product: row times column (`mat4_mul`)
 unfoldable pub mul : Matrix → Matrix → Matrix

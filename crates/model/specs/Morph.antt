@@ -1,4 +1,5 @@
--- Morphed primitives: scope, "Morphed and baked vertices"; glTF 2.0, 3.7.2.2, with in-betweens, which glTF does not have. Definitions only.
+-- Morphed primitives: scope, "Morphed and baked vertices"; glTF 2.0, 3.7.2.2, with in-betweens, which glTF does not
+-- have. Definitions only.
 use mathlib.Core.List.{List, [], _∷_, _++_, map, zipWith}
 use mathlib.Core.Bool.{Bool, true, false, not, _&&_}
 use mathlib.Core.Option.{Option, none, some}
@@ -58,7 +59,8 @@ inserted s (t ∷ ts) = pick (lt (s .weight) (t .weight)) (s ∷ t ∷ ts) (t �
 unfoldable pub stations : Target → List Station
 stations t =
     foldl (λ (l : List Station) (b : InBetween). inserted (stationOf b) l)
-    (record { weight = zero32; positions = none; normals = none } ∷ record { weight = one32; positions = t .positions; normals = t .normals } ∷ [])
+    (record { weight = zero32; positions = none; normals = none }
+    ∷ record { weight = one32; positions = t .positions; normals = t .normals } ∷ [])
     (keep (λ (b : InBetween). valid (b .weight) && alone (t .inBetweens) b) (t .inBetweens))
 
 -- two neighbouring stations
@@ -93,10 +95,12 @@ lengthOf (some l) slots = some (length l)
 lengthOf none slots = foldl (λ (n : Option ℕ) (s : Option (List Vector)). longer s n) none slots
 
 -- the deltas at w of one attribute, which is read from a station by `slot`
-unfoldable pub between : (Station → Option (List Vector)) → Option (List Vector) → List Station → Float → Segment → Option (List Vector)
+unfoldable pub between : (Station → Option (List Vector)) → Option (List Vector) → List Station → Float → Segment
+    → Option (List Vector)
 between slot own all w g =
     let t = (w ⊖ g .low .weight) ⊘ (g .high .weight ⊖ g .low .weight) in
-    mapSome (λ n. tabulate n (λ i. mixed t (entryOf (slot (g .low)) i) (entryOf (slot (g .high)) i))) (lengthOf own (map slot all))
+    mapSome (λ n. tabulate n (λ i. mixed t (entryOf (slot (g .low)) i) (entryOf (slot (g .high)) i)))
+    (lengthOf own (map slot all))
 
 -- ---- a target at weight w, which is not 0
 
@@ -111,7 +115,8 @@ withTangents w t p positions normals = record {
 }
 
 unfoldable pub plainTarget : Float → Target → Primitive → Primitive
-plainTarget w t p = withTangents w t p (onSlot (plus w) (p .positions) (t .positions)) (onAttribute (plus w) (p .normals) (t .normals))
+plainTarget w t p =
+    withTangents w t p (onSlot (plus w) (p .positions) (t .positions)) (onAttribute (plus w) (p .normals) (t .normals))
 
 unfoldable pub stationTarget : Float → Target → Primitive → Primitive
 stationTarget w t p = go (stations t)

@@ -1,5 +1,5 @@
--- The parent of every node by the rule of graph.rs (`parents`): roots are marked first, and a child when a node that is taken lists it. It can
--- differ from the placing. Definitions only.
+-- The parent of every node by the rule of graph.rs (`parents`): roots are marked first, and a child when a node that is
+-- taken lists it. It can differ from the placing. Definitions only.
 use mathlib.Core.List.{List, [], _∷_}
 use mathlib.Core.Option.{Option, none, some}
 use Prim.Native.Nat.{ℕ, zero, suc, _+_}
@@ -45,7 +45,9 @@ explore (suc k) children (x ∷ rest) marks =
 
 -- the marks of all nodes: each root and each node that is marked is taken once
 unfoldable pub marksOf : Scene → List Place
-marksOf s = explore (length (s .roots) + nodeCount s) (childrenAt s) (s .roots) (markRoots (s .roots) (replicate (nodeCount s) unplaced))
+marksOf s =
+    explore (length (s .roots) + nodeCount s) (childrenAt s) (s .roots)
+    (markRoots (s .roots) (replicate (nodeCount s) unplaced))
 
 abbrev pub parentIn : Place → Option ℕ
 parentIn unplaced = none

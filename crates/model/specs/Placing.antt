@@ -1,5 +1,6 @@
--- Where every node stands in the scene: scope, "Placed pieces" (`posed_node_transforms` of pose.rs). Depth first, roots in order, children in
--- order. The first arrival at a node that is in range places it; later arrivals and bad ids are taken and dropped. Definitions only.
+-- Where every node stands in the scene: scope, "Placed pieces" (`posed_node_transforms` of pose.rs). Depth first, roots
+-- in order, children in order. The first arrival at a node that is in range places it; later arrivals and bad ids are
+-- taken and dropped. Definitions only.
 use mathlib.Core.List.{List, [], _∷_, _++_}
 use mathlib.Core.Bool.{Bool, true, false}
 use Prim.Native.Nat.{ℕ, zero, suc, _+_}
@@ -36,22 +37,24 @@ pub record Taken : Type 0 where
   pub entry : Entry
   pub placed : Bool
 
--- Entries are taken, the next one first, until none is left; the children of a node that is placed come next. The first argument bounds how
--- many are taken.
+-- Entries are taken, the next one first, until none is left; the children of a node that is placed come next. The first
+-- argument bounds how many are taken.
 unfoldable pub walk : ℕ → (ℕ → List ℕ) → List Entry → List Place → List Taken
 walk zero children waiting places = []
 walk (suc k) children [] places = []
 walk (suc k) children (e ∷ rest) places =
     let b = free places (e .node) in
     record { entry = e; placed = b }
-    ∷ walk k children (pick b (listed (below (e .node)) (children (e .node)) ++ rest) rest) (pick b (set places (e .node) (e .place)) places)
+    ∷ walk k children (pick b (listed (below (e .node)) (children (e .node)) ++ rest) rest)
+    (pick b (set places (e .node) (e .place)) places)
 
 -- the entries that placed a node, in order
 unfoldable pub placedOf : List Taken → List Entry
 placedOf [] = []
 placedOf (t ∷ ts) = pick (t .placed) (t .entry ∷ placedOf ts) (placedOf ts)
 
--- all that is taken from a listing, given where each node stands at the start; where there are no nodes, nothing is taken
+-- all that is taken from a listing, given where each node stands at the start; where there are no nodes, nothing is
+-- taken
 unfoldable pub trace : List Place → List ℕ → (ℕ → List ℕ) → ℕ → List Taken
 trace [] roots children total = []
 trace (p ∷ ps) roots children total = walk (length roots + total) children (listed root roots) (p ∷ ps)

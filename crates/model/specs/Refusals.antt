@@ -1,4 +1,5 @@
--- The numbers of the calls that are turned down: scope, "Numbers when a piece is turned down". The lowest number that applies is answered.
+-- The numbers of the calls that are turned down: scope, "Numbers when a piece is turned down". The lowest number that
+-- applies is answered.
 -- Definitions only.
 use mathlib.Core.List.{List, [], _∷_}
 use mathlib.Core.Bool.{Bool, true, false, not, _&&_, _||_}
@@ -8,7 +9,8 @@ use lib.Ieee.{Float, isNan}
 use lib.ListN.{length}
 use Rattle.model.specs.Lists.{pick, anyOf}
 use Rattle.model.specs.Limits.{keyLimit, weightLimit}
-use Rattle.model.specs.Scene.{Kind, vec3s, quats, scalars, Interpolation, step, linear, cubicSpline, Track, Scene, nodeCount}
+use Rattle.model.specs.Scene.{Kind, vec3s, quats, scalars, Interpolation, step, linear, cubicSpline, Track, Scene}
+use Rattle.model.specs.Scene.{nodeCount}
 use Rattle.model.specs.Sampling.{even, stride, inLine}
 use Rattle.model.specs.Placing.{childEntries}
 
@@ -95,7 +97,8 @@ sampleTests t time room =
 unfoldable pub sampleNumber : ℕ → Track → Float → ℕ → ℕ
 sampleNumber tables t time room = lowest tables (firstOf (sampleTests t time room))
 
--- frame k is not one of a scalar track with so many keys, or all three rows are asked of a track that is no cubic spline
+-- frame k is not one of a scalar track with so many keys, or all three rows are asked of a track that is no cubic
+-- spline
 abbrev pub badFrame : Kind → Interpolation → ℕ → Bool → ℕ → Bool
 badFrame kind i keys rows k = not (isScalars kind) || not (ltb k keys) || (rows && not (isCubic i))
 
@@ -111,7 +114,8 @@ frameNumber tables t rows k = lowest tables (firstOf (frameTests t rows k))
 
 -- an even track that is aimed at a node, whatever its kind, has keys that are not in line
 abbrev pub someKeysOutOfLine : Scene → Bool
-someKeysOutOfLine s = anyOf (λ (t : Track). ltb (t .target) (nodeCount s) && even t && not (inLine (t .keys))) (s .tracks)
+someKeysOutOfLine s =
+    anyOf (λ (t : Track). ltb (t .target) (nodeCount s) && even t && not (inLine (t .keys))) (s .tracks)
 
 -- the lengths of the lent scratch room: walk room in entries, pose and world slots
 pub record Scratch : Type 0 where
@@ -122,7 +126,9 @@ pub record Scratch : Type 0 where
 -- walk room below roots + child entries, or fewer pose or world slots than nodes
 abbrev pub scratchIsShort : Scene → Scratch → Bool
 scratchIsShort s room =
-    ltb (room .walkRoom) (length (s .roots) + childEntries s) || ltb (room .poseSlots) (nodeCount s) || ltb (room .worldSlots) (nodeCount s)
+    ltb (room .walkRoom) (length (s .roots) + childEntries s)
+    || ltb (room .poseSlots) (nodeCount s)
+    || ltb (room .worldSlots) (nodeCount s)
 
 -- `sample_pose`
 abbrev pub poseTests : Scene → Float → ℕ → List Test

@@ -1,5 +1,6 @@
--- The value of a track at a time: scope, "The sampled value"; glTF 2.0, Appendix C. All of it holds for any number of components: a row is
--- the value of one key, three numbers for a Vec3, four for a Quat, one for each morph weight. Definitions only.
+-- The value of a track at a time: scope, "The sampled value"; glTF 2.0, Appendix C. All of it holds for any number of
+-- components: a row is the value of one key, three numbers for a Vec3, four for a Quat, one for each morph weight.
+-- Definitions only.
 use mathlib.Core.List.{List, [], _∷_}
 use mathlib.Core.Bool.{Bool, true, false, _&&_}
 use mathlib.Core.Option.{Option, none, some}
@@ -48,7 +49,8 @@ even t = ltb 0 (length (t .keys)) && ltb 0 (entries t) && eqb (entries t % rows 
 abbrev pub stride : Track → ℕ
 stride t = entries t / rows t
 
--- a row of a scalar track has `stride` weights; a Vec3 or Quat track reads entry by entry, also where it has a larger multiple
+-- a row of a scalar track has `stride` weights; a Vec3 or Quat track reads entry by entry, also where it has a larger
+-- multiple
 abbrev pub rowWidth : Kind → ℕ → ℕ
 rowWidth vec3s n = 3
 rowWidth quats n = 4
@@ -151,7 +153,8 @@ interpolated t i k time =
     go : Interpolation → Float → Float → Vector
     go step d u = keyValue t k
     go linear d u = straight (t .kind) u (keyValue t k) (keyValue t (suc k))
-    go cubicSpline d u = cubic u d (rowAt t (k * 3 + 1)) (rowAt t (k * 3 + 2)) (rowAt t (suc k * 3 + 1)) (rowAt t (suc k * 3))
+    go cubicSpline d u =
+        cubic u d (rowAt t (k * 3 + 1)) (rowAt t (k * 3 + 2)) (rowAt t (suc k * 3 + 1)) (rowAt t (suc k * 3))
 
 unfoldable pub valueAt : Track → Float → Where → Vector
 valueAt t time before = keyValue t 0

@@ -1,4 +1,5 @@
--- A scene as its tables are read: offsets are gone, each part is a list of its own, and what is absent is told from what is empty.
+-- A scene as its tables are read: offsets are gone, each part is a list of its own, and what is absent is told from
+-- what is empty.
 -- Pieces (the scope's word) are nodes; ids count from 0. Definitions only.
 use mathlib.Core.List.{List, []}
 use mathlib.Core.Option.{Option, none, some}

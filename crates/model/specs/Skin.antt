@@ -1,4 +1,5 @@
--- Palette, skin root and effective weights: scope, "Palette, skin root, weights" (skin.rs, skinning.rs); glTF 2.0, 3.7.3. Definitions only.
+-- Palette, skin root and effective weights: scope, "Palette, skin root, weights" (skin.rs, skinning.rs); glTF 2.0,
+-- 3.7.3. Definitions only.
 use mathlib.Core.List.{List, [], _∷_}
 use mathlib.Core.Bool.{Bool, true, false, _&&_}
 use mathlib.Core.Option.{Option, none, some}

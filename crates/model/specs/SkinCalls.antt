@@ -1,5 +1,6 @@
--- What the calls on a palette, a skin root and morph weights answer, and which number they draw: scope, "Palette, skin root, weights" and
--- "Numbers when a piece is turned down". `tables` is what the tables drew, 0, 1 or 2. Definitions only.
+-- What the calls on a palette, a skin root and morph weights answer, and which number they draw: scope, "Palette, skin
+-- root, weights" and "Numbers when a piece is turned down". `tables` is what the tables drew, 0, 1 or 2. Definitions
+-- only.
 use mathlib.Core.Bool.{not}
 use mathlib.Core.List.{List, [], _∷_}
 use mathlib.Core.Option.{Option, none, some}
@@ -15,7 +16,8 @@ use Rattle.model.specs.Refusals.{Test, firstOf, lowest, shortScratch, no
 
 -- ---- the palette (`joint_matrices_with`), from worlds that are given
 
--- the palette of skin k: none where its id or its skeleton's is bad, a joint has no world, or there are too few inverse binds
+-- the palette of skin k: none where its id or its skeleton's is bad, a joint has no world, or there are too few inverse
+-- binds
 abbrev pub skinPalette : (ℕ → Option Matrix) → Scene → ℕ → Option (List Matrix)
 skinPalette world s k = andThen (skeletonOf s k) (λ (t : Skeleton). paletteOf world t)
 
@@ -43,7 +45,8 @@ skinRootTests s k = record { applies = not (isSome (skinRoot s k)); refusal = no
 unfoldable pub skinRootNumber : ℕ → Scene → ℕ → ℕ
 skinRootNumber tables s k = lowest tables (firstOf (skinRootTests s k))
 
--- ---- the weights of a node's mesh (`effective_morph_weights`): a part of one of two slices, empty where the call is refused
+-- ---- the weights of a node's mesh (`effective_morph_weights`): a part of one of two slices, empty where the call is
+-- refused
 
 abbrev pub weightsTests : Scene → ℕ → List Test
 weightsTests s i = record { applies = not (isSome (meshAt s i)); refusal = noSuchNode } ∷ []

@@ -1,4 +1,5 @@
--- The starred lines of the scope's "From the blade bench" as one table; `Holds` says what each line claims. Definitions only.
+-- The starred lines of the scope's "From the blade bench" as one table; `Holds` says what each line claims. Definitions
+-- only.
 use mathlib.Core.Path.{_≡_}
 use mathlib.Core.List.{List, [], _∷_, map}
 use mathlib.Core.Option.{Option, none, some}
@@ -11,7 +12,8 @@ use Rattle.turn.specs.Weight.{weight}
 use Rattle.model.specs.Vector.{Vector}
 use Rattle.model.specs.Matrix.{identity}
 use Rattle.model.specs.Transform.{matrix}
-use Rattle.model.specs.Scene.{Node, Interpolation, step, linear, cubicSpline, scalars, morphWeights, Track, InBetween, Target, Primitive, Scene}
+use Rattle.model.specs.Scene.{Node, Interpolation, step, linear, cubicSpline, scalars, morphWeights, Track}
+use Rattle.model.specs.Scene.{InBetween, Target, Primitive, Scene}
 use Rattle.model.specs.Sampling.{sample}
 use Rattle.model.specs.Placing.{Place, unplaced, root, below, places, taken}
 use Rattle.model.specs.Parents.{parentOf}
@@ -32,12 +34,21 @@ infixl 80 _per_
 
 -- a track of one scalar a frame
 abbrev pub track : Interpolation → List Float → List Float → Track
-track i ks vs = record { target = 0; property = morphWeights; kind = scalars; interpolation = i; keys = ks; values = vs }
+track i ks vs = record {
+  target = 0;
+  property = morphWeights;
+  kind = scalars;
+  interpolation = i;
+  keys = ks;
+  values = vs;
+}
 
 -- a scene by its roots and child lists
 abbrev pub listing : List ℕ → List (List ℕ) → Scene
 listing roots lists = record {
-  nodes = map (λ (l : List ℕ). record { base = matrix identity; children = l; mesh = none; skin = none; weights = none }) lists;
+  nodes =
+      map (λ (l : List ℕ). record { base = matrix identity; children = l; mesh = none; skin = none; weights = none })
+      lists;
   roots = roots;
   tracks = [];
   meshes = [];
@@ -50,7 +61,14 @@ abbrev pub point : Float → Vector
 point x = x ∷ whole 0 ∷ whole 0 ∷ []
 
 abbrev pub vertex : Vector → List Target → Primitive
-vertex p ts = record { positions = p ∷ []; normals = none; tangents = none; joints = none; weights = none; targets = ts }
+vertex p ts = record {
+  positions = p ∷ [];
+  normals = none;
+  tangents = none;
+  joints = none;
+  weights = none;
+  targets = ts;
+}
 
 -- in-between 0.5 with the delta 1, and the target's delta 4
 abbrev pub stationed : Target
@@ -105,7 +123,8 @@ table =
     ∷ refuses [] (whole 0 ∷ []) 4
     ∷ refuses (whole 0 ∷ whole 1 ∷ []) (whole 0 ∷ whole 1 ∷ whole 2 ∷ []) 4
     ∷ refuses (whole 0 ∷ whole 0 ∷ []) (whole 0 ∷ whole 1 ∷ []) 5
-    ∷ samples cubicSpline (whole 0 ∷ whole 1 ∷ []) (whole 0 ∷ whole 0 ∷ whole 0 ∷ whole 0 ∷ whole 8 ∷ whole 0 ∷ []) (1 per 2) (whole 4)
+    ∷ samples cubicSpline (whole 0 ∷ whole 1 ∷ []) (whole 0 ∷ whole 0 ∷ whole 0 ∷ whole 0 ∷ whole 8 ∷ whole 0 ∷ [])
+    (1 per 2) (whole 4)
     ∷ turns (whole 0) (1 per 2) (whole 0)
     ∷ turns (whole 1) (1 per 2) (whole 1)
     ∷ stands (0 ∷ []) ((1 ∷ 2 ∷ []) ∷ (2 ∷ []) ∷ [] ∷ []) 2 (below 1) (some 0)
@@ -117,5 +136,6 @@ table =
     ∷ morphs (1 per 4) (1 per 2)
     ∷ morphs (3 per 4) (5 per 2)
     ∷ morphs (whole 2) (whole 10)
-    ∷ skins (0 ∷ 0 ∷ 0 ∷ 1 ∷ []) (1 per 2 ∷ nan ∷ minusOne ∷ 1 per 2 ∷ []) (whole 2 ∷ whole 4 ∷ whole 6 ∷ []) (whole 1 ∷ whole 2 ∷ whole 3 ∷ [])
+    ∷ skins (0 ∷ 0 ∷ 0 ∷ 1 ∷ []) (1 per 2 ∷ nan ∷ minusOne ∷ 1 per 2 ∷ []) (whole 2 ∷ whole 4 ∷ whole 6 ∷ [])
+    (whole 1 ∷ whole 2 ∷ whole 3 ∷ [])
     ∷ []

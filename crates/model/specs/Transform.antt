@@ -1,5 +1,5 @@
--- A node's transform: translation, rotation and scale, or a matrix (glTF 2.0, 3.5.3), and the way from one to the other. The order of
--- operations is that of scene.rs. Definitions only.
+-- A node's transform: translation, rotation and scale, or a matrix (glTF 2.0, 3.5.3), and the way from one to the
+-- other. The order of operations is that of scene.rs. Definitions only.
 use mathlib.Core.List.{List, [], _∷_}
 use mathlib.Core.Bool.{Bool, _&&_}
 use lib.Ieee.{Float, binary32, lt}
@@ -25,11 +25,17 @@ oneLessTwice a b = one32 ⊖ two32 ⊗ (a ⊕ b)
 -- the matrix of a translation, a rotation by the quaternion (x, y, z, w) and a scale (`trs_to_matrix`)
 unfoldable pub fromTrs : Trs → Matrix
 fromTrs p =
-    let x = at (p .rotation) 0 in let y = at (p .rotation) 1 in let z = at (p .rotation) 2 in let w = at (p .rotation) 3 in
+    let x = at (p .rotation) 0 in
+    let y = at (p .rotation) 1 in
+    let z = at (p .rotation) 2 in
+    let w = at (p .rotation) 3 in
     let sx = at (p .scale) 0 in let sy = at (p .scale) 1 in let sz = at (p .scale) 2 in
-    oneLessTwice (y ⊗ y) (z ⊗ z) ⊗ sx ∷ two32 ⊗ (x ⊗ y ⊖ w ⊗ z) ⊗ sy ∷ two32 ⊗ (x ⊗ z ⊕ w ⊗ y) ⊗ sz ∷ at (p .translation) 0
-    ∷ two32 ⊗ (x ⊗ y ⊕ w ⊗ z) ⊗ sx ∷ oneLessTwice (x ⊗ x) (z ⊗ z) ⊗ sy ∷ two32 ⊗ (y ⊗ z ⊖ w ⊗ x) ⊗ sz ∷ at (p .translation) 1
-    ∷ two32 ⊗ (x ⊗ z ⊖ w ⊗ y) ⊗ sx ∷ two32 ⊗ (y ⊗ z ⊕ w ⊗ x) ⊗ sy ∷ oneLessTwice (x ⊗ x) (y ⊗ y) ⊗ sz ∷ at (p .translation) 2
+    oneLessTwice (y ⊗ y) (z ⊗ z) ⊗ sx ∷ two32 ⊗ (x ⊗ y ⊖ w ⊗ z) ⊗ sy ∷ two32 ⊗ (x ⊗ z ⊕ w ⊗ y) ⊗ sz
+    ∷ at (p .translation) 0
+    ∷ two32 ⊗ (x ⊗ y ⊕ w ⊗ z) ⊗ sx ∷ oneLessTwice (x ⊗ x) (z ⊗ z) ⊗ sy ∷ two32 ⊗ (y ⊗ z ⊖ w ⊗ x) ⊗ sz
+    ∷ at (p .translation) 1
+    ∷ two32 ⊗ (x ⊗ z ⊖ w ⊗ y) ⊗ sx ∷ two32 ⊗ (y ⊗ z ⊕ w ⊗ x) ⊗ sy ∷ oneLessTwice (x ⊗ x) (y ⊗ y) ⊗ sz
+    ∷ at (p .translation) 2
     ∷ bottomRow
 
 unfoldable pub toMatrix : Transform → Matrix

@@ -34,8 +34,8 @@ pub record InDomain (v c : Float) : Type 0 where
   pub c-from : T (le zero32 c)
   pub c-below : T (lt c one32)
 
--- Scope, "The sampled value": within 2 ^ -24 of the exact weight, "NaN apart". W(v, c) is asked for in the domain of its bounds and meets them, or
--- it is NaN since v or c is.
+-- Scope, "The sampled value": within 2 ^ -24 of the exact weight, "NaN apart". W(v, c) is asked for in the domain of
+-- its bounds and meets them, or it is NaN since v or c is.
 pub data WithinOrNaN (v c : Float) : Type 0 where
   within : InDomain v c → Bounds v c (weight v c) → WithinOrNaN v c
   lost : (v ≡ nan) ⊎ (c ≡ nan) → weight v c ≡ nan → WithinOrNaN v c
@@ -50,5 +50,6 @@ pub record Turned (t : Track) (k : ℕ) (time : Float) : Type 0 where
   pub value :
       let u = fraction (t .keys) k time in
       let c = cosine (keyValue t k) (keyValue t (suc k)) in
-      sample t time ≡ some (weight (one32 ⊖ u) c ⊙ keyValue t k ⊞ weight u c ⊙ nearer (keyValue t k) (keyValue t (suc k)))
+      sample t time
+      ≡ some (weight (one32 ⊖ u) c ⊙ keyValue t k ⊞ weight u c ⊙ nearer (keyValue t k) (keyValue t (suc k)))
   pub weights : Weights (fraction (t .keys) k time) (cosine (keyValue t k) (keyValue t (suc k)))

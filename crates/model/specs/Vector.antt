@@ -1,4 +1,5 @@
--- Vectors of any number of components, as lists of f32 values: three for a point or a direction, four for a quaternion (x, y, z, w).
+-- Vectors of any number of components, as lists of f32 values: three for a point or a direction, four for a quaternion
+-- (x, y, z, w).
 -- Every operation is rounded, and sums run from the left. Definitions only.
 use mathlib.Core.List.{List, [], _∷_, map, zipWith}
 use mathlib.Core.Bool.{Bool, _&&_}

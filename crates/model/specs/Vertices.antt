@@ -1,4 +1,5 @@
--- Vertices placed in the world: scope, "Morphed and baked vertices" (transform.rs, skinning.rs); glTF 2.0, 3.7.3. Definitions only.
+-- Vertices placed in the world: scope, "Morphed and baked vertices" (transform.rs, skinning.rs); glTF 2.0, 3.7.3.
+-- Definitions only.
 use mathlib.Core.List.{List, [], _∷_, _++_, map}
 use mathlib.Core.Bool.{Bool, not, _&&_}
 use mathlib.Core.Option.{Option, none, some}
@@ -73,11 +74,13 @@ influences palette (j ∷ js) (w ∷ ws) = counted (getElem? palette j) w (influ
 -- their matrices, weighted and added up from zeros
 abbrev pub mixture : List Influence → Option Matrix
 mixture [] = none
-mixture (i ∷ is) = some (foldl (λ (m : Matrix) (i : Influence). m ⊞ i .weight ⊙ i .matrix) (replicate 16 zero32) (i ∷ is))
+mixture (i ∷ is) =
+    some (foldl (λ (m : Matrix) (i : Influence). m ⊞ i .weight ⊙ i .matrix) (replicate 16 zero32) (i ∷ is))
 
 -- the matrix of vertex v; none where it has no row or no influence that counts
 abbrev pub jointMatrix : List Matrix → List (List ℕ) → List Vector → ℕ → Option Matrix
-jointMatrix palette joints weights v = andThen (getElem? joints v) (λ js. andThen (getElem? weights v) (λ ws. mixture (influences palette js ws)))
+jointMatrix palette joints weights v =
+    andThen (getElem? joints v) (λ js. andThen (getElem? weights v) (λ ws. mixture (influences palette js ws)))
 
 abbrev pub byMatrix : (Matrix → Vector → Vector) → Option Matrix → Vector → Vector
 byMatrix f none x = x
@@ -87,7 +90,9 @@ unfoldable pub skinned : List Matrix → List (List ℕ) → List Vector → Pri
 skinned palette joints weights p =
     record {
       positions = indexed 0 (λ v x. byMatrix affinePoint (ofVertex v) x) (p .positions);
-      normals = indexed 0 (λ v x. byMatrix (λ m y. turnedNormal (inverseTranspose m) y) (ofVertex v) x) (orElse (p .normals) []);
+      normals =
+          indexed 0 (λ v x. byMatrix (λ m y. turnedNormal (inverseTranspose m) y) (ofVertex v) x)
+          (orElse (p .normals) []);
       tangents = indexed 0 (λ v x. byMatrix turnedTangent (ofVertex v) x) (orElse (p .tangents) []);
     }
   where

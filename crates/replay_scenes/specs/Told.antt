@@ -19,7 +19,8 @@ parentsTold fields at number out = wordsNext fields (numberTold fields at number
 
 -- the number of `sample_pose`, its marks and its slots
 abbrev pub poseTold : List ℕ → ℕ → ℕ → List ℕ → List Float → Checked
-poseTold fields at number marks slots = floatsNext fields (wordsNext fields (numberTold fields at number) marks 32) slots 80
+poseTold fields at number marks slots =
+    floatsNext fields (wordsNext fields (numberTold fields at number) marks 32) slots 80
 
 -- number and entries taken of `posed_node_transforms`, the walk room, the places and the worlds
 abbrev pub placesTold : List ℕ → ℕ → ℕ → ℕ → List ℕ → List ℕ → List Float → Checked

@@ -1,13 +1,13 @@
-// A quadratic near the square root for each of 256 pieces, numbered from 256: the exponent's last digit and the first seven of
-// the significand choose the piece. The numbers are free: nothing is promised of them but that what is worked out with them
-// fits, since whoever uses them tests the result.
+// A quadratic near the square root for each of 256 pieces, numbered from 256: the exponent's last digit and the first
+// seven of the significand choose the piece. The numbers are free: nothing is promised of them but that what is worked
+// out with them fits, since whoever uses them tests the result.
 ghost use Prim.Native.Nat.{_^_, _≤_, _<_};
 
 // Base, slope and bend: base + slope * d - bend * d * d, where d counts from the start of the piece.
 pub struct Quadratic(pub u64, pub u64, pub u64);
 
-// One `match` is compiled to constant memory: a `const` array would be written anew, entry by entry, at each call. The numbering
-// from 256 spares an instruction. Any other number has the last piece.
+// One `match` is compiled to constant memory: a `const` array would be written anew, entry by entry, at each call. The
+// numbering from 256 spares an instruction. Any other number has the last piece.
 pub fn piece(i: u64) -> Quadratic
     ensures { λ r. ⌜ ((2 ^ 61 ≤ r .0) × (r .0 < 2 ^ 62)) × ((r .1 < 2 ^ 39) × (r .2 < 2 ^ 13)) ⌝ }
 {

@@ -1,5 +1,5 @@
--- Whether the counts, tags and marks of a record are within their limits: number 2 (scope, "Numbers when a piece is turned down"). A tag or mark
--- that names nothing is over size. Definitions only.
+-- Whether the counts, tags and marks of a record are within their limits: number 2 (scope, "Numbers when a piece is
+-- turned down"). A tag or mark that names nothing is over size. Definitions only.
 use mathlib.Core.Bool.{Bool, true, _&&_}
 use Prim.Native.Nat.{ℕ}
 use lib.Dec.{leb}
@@ -24,7 +24,8 @@ abbrev pub slotWithin : Slot → Bool
 slotWithin s = pick (isMarked (s .mark)) (isKnown (s .mark) 1 && leb (s .part .count) vertexLimit) true
 
 abbrev pub nodeWithin : NodeRow → Bool
-nodeWithin r = isKnown (r .form) 1 && (isKnown (r .mesh .mark) 1 && (isKnown (r .skin .mark) 1 && isKnown (r .weights .mark) 1))
+nodeWithin r =
+    isKnown (r .form) 1 && (isKnown (r .mesh .mark) 1 && (isKnown (r .skin .mark) 1 && isKnown (r .weights .mark) 1))
 
 abbrev pub tagsKnown : ChannelRow → Bool
 tagsKnown r = isKnown (r .property) 3 && (isKnown (r .kind) 2 && isKnown (r .interpolation) 2)
@@ -39,7 +40,8 @@ primitiveWithin r =
 
 abbrev pub targetWithin : TargetRow → Bool
 targetWithin r =
-    (slotWithin (r .positions) && (slotWithin (r .normals) && slotWithin (r .tangents))) && leb (r .«in_betweens» .count) inBetweenLimit
+    (slotWithin (r .positions) && (slotWithin (r .normals) && slotWithin (r .tangents)))
+    && leb (r .«in_betweens» .count) inBetweenLimit
 
 abbrev pub inBetweenWithin : InBetweenRow → Bool
 inBetweenWithin r = slotWithin (r .positions) && slotWithin (r .normals)

@@ -36,12 +36,15 @@ meshFits s r = fitsIn (r .primitives) 1 (s .primitives) && fitsIn (r .weights) 1
 
 abbrev pub primitiveFits : Sizes → PrimitiveRow → Bool
 primitiveFits s r =
-    (fitsIn (r .positions) 3 (s .floats) && (slotFits (r .normals) 3 (s .floats) && slotFits (r .tangents) 4 (s .floats)))
-    && ((slotFits (r .joints) 4 (s .words) && slotFits (r .weights) 4 (s .floats)) && fitsIn (r .targets) 1 (s .targets))
+    (fitsIn (r .positions) 3 (s .floats)
+    && (slotFits (r .normals) 3 (s .floats) && slotFits (r .tangents) 4 (s .floats)))
+    && ((slotFits (r .joints) 4 (s .words) && slotFits (r .weights) 4 (s .floats))
+    && fitsIn (r .targets) 1 (s .targets))
 
 abbrev pub targetFits : Sizes → TargetRow → Bool
 targetFits s r =
-    (slotFits (r .positions) 3 (s .floats) && (slotFits (r .normals) 3 (s .floats) && slotFits (r .tangents) 3 (s .floats)))
+    (slotFits (r .positions) 3 (s .floats)
+    && (slotFits (r .normals) 3 (s .floats) && slotFits (r .tangents) 3 (s .floats)))
     && fitsIn (r .«in_betweens») 1 (s .«in_betweens»)
 
 abbrev pub inBetweenFits : Sizes → InBetweenRow → Bool

@@ -16,7 +16,9 @@ use tables::Slot;
 use tables::TargetRow;
 ghost use mathlib.Core.Path.{_≡_};
 ghost use lib.Dec.{leb};
-ghost use Rattle.row_checks.specs.Bounds.{isKnown, slotWithin, nodeWithin, tagsKnown, meshWithin, primitiveWithin, targetWithin, inBetweenWithin, skinWithin, skeletonWithin};
+ghost use Rattle.row_checks.specs.Bounds.{isKnown, slotWithin, nodeWithin, tagsKnown, meshWithin};
+ghost use Rattle.row_checks.specs.Bounds.{primitiveWithin, targetWithin, inBetweenWithin, skinWithin};
+ghost use Rattle.row_checks.specs.Bounds.{skeletonWithin};
 
 // A mark or tag is one of the first so many numbers.
 fn is_known(tag: u32, last: u32) -> bool

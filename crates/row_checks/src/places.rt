@@ -10,7 +10,8 @@ use tables::TargetRow;
 use tracks::Part;
 ghost use mathlib.Core.Path.{_≡_};
 ghost use mathlib.Core.Bool.{Bool, _&&_};
-ghost use Rattle.row_checks.specs.Places.{slotFits, baseFloats, nodeFits, meshFits, primitiveFits, targetFits, inBetweenFits, skeletonFits};
+ghost use Rattle.row_checks.specs.Places.{slotFits, baseFloats, nodeFits, meshFits, primitiveFits, targetFits};
+ghost use Rattle.row_checks.specs.Places.{inBetweenFits, skeletonFits};
 
 pub(crate) fn both(a: bool, b: bool) -> bool
     ensures { λ r. ⌜ r ≡ (a && b) ⌝ }

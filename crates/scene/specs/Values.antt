@@ -34,14 +34,22 @@ mat3 l = l .m00 ∷ l .m01 ∷ l .m02 ∷ l .m10 ∷ l .m11 ∷ l .m12 ∷ l .m2
 -- sixteen numbers, row by row
 abbrev pub mat4 : Entries → Matrix
 mat4 e =
-    e .m00 ∷ e .m01 ∷ e .m02 ∷ e .m03 ∷ e .m10 ∷ e .m11 ∷ e .m12 ∷ e .m13 ∷ e .m20 ∷ e .m21 ∷ e .m22 ∷ e .m23 ∷ e .m30 ∷ e .m31 ∷ e .m32 ∷ e .m33 ∷ []
+    e .m00 ∷ e .m01 ∷ e .m02 ∷ e .m03
+    ∷ e .m10 ∷ e .m11 ∷ e .m12 ∷ e .m13
+    ∷ e .m20 ∷ e .m21 ∷ e .m22 ∷ e .m23
+    ∷ e .m30 ∷ e .m31 ∷ e .m32 ∷ e .m33
+    ∷ []
 
 abbrev pub inRow : Row → Vector
 inRow r = r .x ∷ r .y ∷ r .z ∷ r .w ∷ []
 
 abbrev pub byRows : Rows → Matrix
 byRows m =
-    m .a .x ∷ m .a .y ∷ m .a .z ∷ m .a .w ∷ m .b .x ∷ m .b .y ∷ m .b .z ∷ m .b .w ∷ m .c .x ∷ m .c .y ∷ m .c .z ∷ m .c .w ∷ m .d .x ∷ m .d .y ∷ m .d .z ∷ m .d .w ∷ []
+    m .a .x ∷ m .a .y ∷ m .a .z ∷ m .a .w
+    ∷ m .b .x ∷ m .b .y ∷ m .b .z ∷ m .b .w
+    ∷ m .c .x ∷ m .c .y ∷ m .c .z ∷ m .c .w
+    ∷ m .d .x ∷ m .d .y ∷ m .d .z ∷ m .d .w
+    ∷ []
 
 abbrev pub trs : Trs → model.Trs
 trs p = record { translation = vec3 (p .translation); rotation = quat (p .rotation); scale = vec3 (p .scale) }

@@ -1,5 +1,5 @@
-// Matrices, quaternions and transforms: the port of scene.rs's transforms, and of the small matrix functions of skinning.rs
-// and transform.rs. Matrices are row by row, the translation in the fourth column.
+// Matrices, quaternions and transforms: the port of scene.rs's transforms, and of the small matrix functions of
+// skinning.rs and transform.rs. Matrices are row by row, the translation in the fourth column.
 mod matrices;
 mod transforms;
 mod vectors;

@@ -10,7 +10,8 @@ ghost use Prim.Native.Nat.{_<_};
 ghost use lib.ListN.{take};
 ghost use Rattle.model.specs.Matrix.{column};
 ghost use Rattle.model.specs.Vector.{_⊙_, norm};
-ghost use Rattle.model.specs.Transform.{fromTrs, toMatrix, lengthFactor, fromW, fromX, fromY, fromZ, twiceRoot, quaternion, direction, split};
+ghost use Rattle.model.specs.Transform.{fromTrs, toMatrix, lengthFactor, fromW, fromX, fromY, fromZ, twiceRoot};
+ghost use Rattle.model.specs.Transform.{quaternion, direction, split};
 ghost use Rattle.scene.specs.Values.{vec3, quat, mat4, trs, transformOf};
 
 // The matrix of a translation, a rotation and a scale.

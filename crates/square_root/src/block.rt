@@ -49,8 +49,8 @@ fn high(s: f32) -> f32
     f32::from_bits(b & 0x7fff_f000)
 }
 
-// y less the square of s. h and l have 12 digits each, so the three products are exact: next to a power of 4, where the root is
-// close to the middle of two floats, less would not do.
+// y less the square of s. h and l have 12 digits each, so the three products are exact: next to a power of 4, where the
+// root is close to the middle of two floats, less would not do.
 fn rest(y: f32, s: f32) -> f32
     requires { ⌜ T (not (isNan s)) ⌝ }
 {
@@ -59,8 +59,8 @@ fn rest(y: f32, s: f32) -> f32
     ((y - h * h) - (h + h) * l) - l * l
 }
 
-// The significand of a guess at the root of y: a polynomial, then a step of Newton's. Nothing is promised of it but that it is
-// small.
+// The significand of a guess at the root of y: a polynomial, then a step of Newton's. Nothing is promised of it but
+// that it is small.
 fn guess(y: f32) -> u32
     requires { ⌜ isNormal y ≡ true ⌝ }
     ensures { λ r. ⌜ r < 2 ^ 24 ⌝ }
@@ -88,8 +88,8 @@ fn guesses(a: [f32; 16]) -> [u32; 16]
     q
 }
 
-// From 2^63 up only where q is within a half of the root of x's significand. e is p * p - n, wrapped: with p less it is below
-// 0 where p * p < n + p, and with p more it is not where n <= p * p + p.
+// From 2^63 up only where q is within a half of the root of x's significand. e is p * p - n, wrapped: with p less it is
+// below 0 where p * p < n + p, and with p more it is not where n <= p * p + p.
 fn near_root(x: f32, q: u32) -> u64
     requires { ⌜ (isNormal x ≡ true) × (q < 2 ^ 24) ⌝ }
     ensures { λ r. ⌜ (2 ^ 63 ≤ r → Near (toBits binary32 x) q) ⌝ }
@@ -174,8 +174,8 @@ fn one_by_one(a: [f32; 16]) -> [f32; 16]
     out
 }
 
-// The root of each number of b, to nearest even, and whether all of them are normal. Where they are and every guess is within
-// a half of its root, the guesses are the roots.
+// The root of each number of b, to nearest even, and whether all of them are normal. Where they are and every guess is
+// within a half of its root, the guesses are the roots.
 pub fn sqrt_block(b: Block) -> Roots
     ensures { λ r. ⌜ (r .of ≡ map (sqrtOf binary32) (b .of)) × (r .normal ≡ allNormal (b .of)) ⌝ }
 {

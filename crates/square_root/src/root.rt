@@ -114,8 +114,8 @@ fn any_root(x: f32) -> f32
     0.0 / 0.0
 }
 
-// A guess at the root of the significand of a, from the table: a quadratic in its last 16 digits. Nothing is promised of it
-// but that it is small.
+// A guess at the root of the significand of a, from the table: a quadratic in its last 16 digits. Nothing is promised
+// of it but that it is small.
 fn near(a: u64) -> u64
     requires { ⌜ a < 2 ^ 32 ⌝ }
     ensures { λ r. ⌜ r < 2 ^ 25 ⌝ }
@@ -138,8 +138,8 @@ pub(crate) fn number(a: u32) -> u64
     (m as u64) * (f as u64)
 }
 
-// The f32 nearest to the square root of x, ties to even: Rust's `x.sqrt()`. For a normal x above 0 the guess is it, where it is
-// within a half of the root.
+// The f32 nearest to the square root of x, ties to even: Rust's `x.sqrt()`. For a normal x above 0 the guess is it,
+// where it is within a half of the root.
 pub fn sqrt(x: f32) -> f32
     ensures { λ r. ⌜ r ≡ sqrtOf binary32 x ⌝ }
 {

@@ -1,4 +1,5 @@
--- How a node's place stands in a lent slot: 0 where it is not placed, 1 for a root, p + 3 under node p; 2 is kept free. Definitions only.
+-- How a node's place stands in a lent slot: 0 where it is not placed, 1 for a root, p + 3 under node p; 2 is kept free.
+-- Definitions only.
 use mathlib.Core.List.{List, map}
 use Prim.Native.Nat.{ℕ, _+_}
 use Rattle.model.specs.Placing.{Place, unplaced, root, below}

@@ -1,5 +1,6 @@
--- The scene that the lent tables say: offsets are resolved into lists, and what is absent is told from what is empty (docs/TABLES.md). It is
--- given for any tables; where one of them is left, the call draws 1, and what is read there does not matter. Definitions only.
+-- The scene that the lent tables say: offsets are resolved into lists, and what is absent is told from what is empty
+-- (docs/TABLES.md). It is given for any tables; where one of them is left, the call draws 1, and what is read there
+-- does not matter. Definitions only.
 use mathlib.Core.List.{List}
 use mathlib.Core.Option.{Option, none, some}
 use Prim.Native.Nat.{ℕ, _+_, _*_}
@@ -24,7 +25,8 @@ use Rattle.tables.specs.declared.TargetRow.{TargetRow}
 use Rattle.tables.specs.declared.InBetweenRow.{InBetweenRow}
 use Rattle.tables.specs.declared.SkinRow.{SkinRow}
 use Rattle.tables.specs.declared.SkeletonRow.{SkeletonRow}
-use Rattle.tables.specs.Records.{nodeRow, channelRow, meshRow, primitiveRow, targetRow, inBetweenRow, skinRow, skeletonRow}
+use Rattle.tables.specs.Records.{nodeRow, channelRow, meshRow, primitiveRow, targetRow, inBetweenRow, skinRow}
+use Rattle.tables.specs.Records.{skeletonRow}
 use Rattle.tables.specs.Tags.{isMarked, propertyFor, trackFor, idOf}
 
 -- all that a call on a scene is lent: the nodes' own weights and the meshes' stand in slices of their own
@@ -54,7 +56,8 @@ partsFrom ten = record { translation = take 3 ten; rotation = part ten 3 4; scal
 -- ---- what a record says
 
 abbrev pub baseOf : List Float → NodeRow → Transform
-baseOf floats r = pick (isMarked (r .form)) (matrix (matrixIn floats (r .base))) (parts (partsFrom (tenIn floats (r .base))))
+baseOf floats r =
+    pick (isMarked (r .form)) (matrix (matrixIn floats (r .base))) (parts (partsFrom (tenIn floats (r .base))))
 
 -- the child list of node i
 abbrev pub childrenIn : List ℕ → Part → ℕ → List ℕ
@@ -72,7 +75,14 @@ nodeOf l r = record {
 -- a track with what it drives
 abbrev pub driving : ℕ → scene.Property → scene.Track → scene.Track
 driving n p t =
-    record { target = n; property = p; kind = t .kind; interpolation = t .interpolation; keys = t .keys; values = t .values }
+    record {
+      target = n;
+      property = p;
+      kind = t .kind;
+      interpolation = t .interpolation;
+      keys = t .keys;
+      values = t .values;
+    }
 
 abbrev pub channelOf : Lent → ChannelRow → scene.Track
 channelOf l r = driving (r .target) (propertyFor (r .property)) (trackIn (l .floats) (trackFor r))
@@ -93,7 +103,8 @@ targetOf l r = record {
   positions = slotIn (l .floats) (r .positions) 3;
   normals = slotIn (l .floats) (r .normals) 3;
   tangents = slotIn (l .floats) (r .tangents) 3;
-  inBetweens = recordsIn (λ i. inBetweenOf l (inBetweenRow (l .words) (l .header .meshes .«in_betweens») i)) (r .«in_betweens»);
+  inBetweens =
+      recordsIn (λ i. inBetweenOf l (inBetweenRow (l .words) (l .header .meshes .«in_betweens») i)) (r .«in_betweens»);
 }
 
 abbrev pub primitiveOf : Lent → PrimitiveRow → scene.Primitive
@@ -108,7 +119,8 @@ primitiveOf l r = record {
 
 abbrev pub meshOf : Lent → MeshRow → scene.Mesh
 meshOf l r = record {
-  primitives = recordsIn (λ i. primitiveOf l (primitiveRow (l .words) (l .header .meshes .primitives) i)) (r .primitives);
+  primitives =
+      recordsIn (λ i. primitiveOf l (primitiveRow (l .words) (l .header .meshes .primitives) i)) (r .primitives);
   weights = spanIn (l .meshWeights) (r .weights) 1;
 }
 
@@ -128,7 +140,10 @@ sceneOf l = record {
   nodes = tabulate (l .header .graph .nodes .count) (λ i. nodeOf l (nodeRow (l .words) (l .header .graph .nodes) i));
   roots = spanIn (l .words) (l .header .graph .roots) 1;
   tracks = tabulate (l .header .channels .count) (λ i. channelOf l (channelRow (l .words) (l .header .channels) i));
-  meshes = tabulate (l .header .meshes .meshes .count) (λ i. meshOf l (meshRow (l .words) (l .header .meshes .meshes) i));
+  meshes =
+      tabulate (l .header .meshes .meshes .count) (λ i. meshOf l (meshRow (l .words) (l .header .meshes .meshes) i));
   skins = tabulate (l .header .skins .skins .count) (λ i. skinOf (skinRow (l .words) (l .header .skins .skins) i));
-  skeletons = tabulate (l .header .skins .skeletons .count) (λ i. skeletonOf l (skeletonRow (l .words) (l .header .skins .skeletons) i));
+  skeletons =
+      tabulate (l .header .skins .skeletons .count)
+      (λ i. skeletonOf l (skeletonRow (l .words) (l .header .skins .skeletons) i));
 }

@@ -1,5 +1,5 @@
--- What the records of a lent scene say, word by word (docs/TABLES.md). A table starts at a word and has so many records of a fixed number of
--- words; a word that is not there reads as 0. Definitions only.
+-- What the records of a lent scene say, word by word (docs/TABLES.md). A table starts at a word and has so many records
+-- of a fixed number of words; a word that is not there reads as 0. Definitions only.
 use mathlib.Core.List.{List}
 use Prim.Native.Nat.{ℕ, _+_, _*_}
 use lib.ListN.{getD}
@@ -113,4 +113,7 @@ abbrev pub skinRow : List ℕ → Part → ℕ → SkinRow
 skinRow words t i = record { skeleton = wordOf words t skinWords i 0; root = referenceOf words t skinWords i 1 }
 
 abbrev pub skeletonRow : List ℕ → Part → ℕ → SkeletonRow
-skeletonRow words t i = record { joints = partOf words t skeletonWords i 0; «inverse_binds» = partOf words t skeletonWords i 2 }
+skeletonRow words t i = record {
+  joints = partOf words t skeletonWords i 0;
+  «inverse_binds» = partOf words t skeletonWords i 2;
+}

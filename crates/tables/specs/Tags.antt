@@ -1,5 +1,5 @@
--- What the tags and marks of a record say. A mark is 0 for absent; a number that names nothing is over size (2), so what it reads as does not
--- matter. Definitions only.
+-- What the tags and marks of a record say. A mark is 0 for absent; a number that names nothing is over size (2), so
+-- what it reads as does not matter. Definitions only.
 use mathlib.Core.Bool.{Bool, true, false}
 use mathlib.Core.Option.{Option, none, some}
 use Prim.Native.Nat.{ℕ, zero, suc}
@@ -38,7 +38,12 @@ propertyFor (suc (suc zero)) = scene.scale
 propertyFor (suc (suc (suc n))) = scene.morphWeights
 
 abbrev pub trackFor : ChannelRow → Track
-trackFor r = record { kind = kindFor (r .kind); interpolation = interpolationFor (r .interpolation); keys = r .keys; values = r .values }
+trackFor r = record {
+  kind = kindFor (r .kind);
+  interpolation = interpolationFor (r .interpolation);
+  keys = r .keys;
+  values = r .values;
+}
 
 abbrev pub idOf : Reference → Option ℕ
 idOf r = pick (isMarked (r .mark)) (some (r .id)) none

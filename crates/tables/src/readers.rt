@@ -15,7 +15,8 @@ ghost use mathlib.Core.Path.{_≡_};
 ghost use lib.ListN.{length, getD};
 ghost use Rattle.float.specs.F32.{zero32};
 ghost use Rattle.scene.specs.Values.{trs, transformOf};
-ghost use Rattle.tables.specs.Tags.{isMarked, kindFor, interpolationFor, propertyFor, propertyOf, namedOf, idOf, trackFor};
+ghost use Rattle.tables.specs.Tags.{isMarked, kindFor, interpolationFor, propertyFor, propertyOf, namedOf, idOf};
+ghost use Rattle.tables.specs.Tags.{trackFor};
 ghost use Rattle.tables.specs.Decoded.{partsFrom, tenIn, baseOf};
 
 // Whether a mark says present.

@@ -12,7 +12,8 @@ use tracks::Part;
 ghost use mathlib.Core.Path.{_≡_};
 ghost use Prim.Native.Nat.{_+_, _*_, _<_};
 ghost use lib.ListN.{length, take, drop};
-ghost use Rattle.tables.specs.Records.{alone, wordOf, partOf, slotOf, referenceOf, nodeRow, channelRow, meshRow, primitiveRow, targetRow, inBetweenRow, skinRow, skeletonRow};
+ghost use Rattle.tables.specs.Records.{alone, wordOf, partOf, slotOf, referenceOf, nodeRow, channelRow, meshRow};
+ghost use Rattle.tables.specs.Records.{primitiveRow, targetRow, inBetweenRow, skinRow, skeletonRow};
 
 fn wide(x: u32) -> usize
     ensures { λ r. ⌜ r ≡ x ⌝ }

@@ -1,5 +1,5 @@
-// Keyframe tracks in a table of floats: how their keys and values are laid out, whether the keys are in line, and what the
-// table draws.
+// Keyframe tracks in a table of floats: how their keys and values are laid out, whether the keys are in line, and what
+// the table draws.
 mod keys;
 mod layout;
 mod numbers;

@@ -1,6 +1,7 @@
 -- How near the turn weight is to the exact one (scope, "The sampled value"). Definitions only.
 -- The exact weight is sin(v·a) / sin(a) with cos(a) = c. It is the endless sum of v times the products of the ratios
--- ((i² - v²)(1 - c)) / (i(2i + 1)): term k has those for i from 1 to k (Gauss's hypergeometric series, NIST DLMF chapter 15).
+-- ((i² - v²)(1 - c)) / (i(2i + 1)): term k has those for i from 1 to k (Gauss's hypergeometric series, NIST DLMF
+-- chapter 15).
 use Prim.Native.Nat.{ℕ, zero, suc, _+_, _-_, _*_, _^_, _≤_}
 use lib.Dec.{T}
 use lib.Ieee.{Float, le}
@@ -8,7 +9,8 @@ use lib.Ieee.Positive as P
 use lib.Ieee.Scale.{finite}
 use Rattle.turn.specs.Weight.{zeroF}
 
--- The sum of scope, "The sampled value", without its factor v, at v = a / b and c = m / n. From 0 to 1 neither difference below is cut off at 0.
+-- The sum of scope, "The sampled value", without its factor v, at v = a / b and c = m / n. From 0 to 1 neither
+-- difference below is cut off at 0.
 module _ (a b m n : ℕ) where
   -- Ratio i is num i / den i. The numerator (i² - v²)(1 - c), times b² n (scope, "The sampled value").
   unfoldable pub num : ℕ → ℕ
@@ -33,7 +35,8 @@ module _ (a b m n : ℕ) where
   before zero = 0
   before (suc k) = (before k + top k) * den (suc k)
 
--- Scope, "The sampled value": the sum of the first k terms at v and c, "as a fraction of whole numbers", is sumTop v c k / sumBot v c k.
+-- Scope, "The sampled value": the sum of the first k terms at v and c, "as a fraction of whole numbers", is sumTop v c
+-- k / sumBot v c k.
 abbrev pub sumTop : Float → Float → ℕ → ℕ
 sumTop v c k = P.num v * before (P.num v) (P.den v) (P.num c) (P.den c) k
 
@@ -45,7 +48,8 @@ sumBot v c k = P.den v * bot (P.num v) (P.den v) (P.num c) (P.den c) k
 abbrev pub AtMost : ℕ → ℕ → ℕ → ℕ → Type 0
 AtMost x y u w = x * (w * 2 ^ 24) ≤ (u * 2 ^ 24 + w) * y
 
--- Scope, "The sampled value", of w = W(v, c): no partial sum exceeds w + 2 ^ -24, and the sum of the first 41 terms is at least w - 2 ^ -24.
+-- Scope, "The sampled value", of w = W(v, c): no partial sum exceeds w + 2 ^ -24, and the sum of the first 41 terms is
+-- at least w - 2 ^ -24.
 -- Besides, w is a number from 0 up.
 pub record Bounds (v c w : Float) : Type 0 where
   pub number : T (finite w)

@@ -1,4 +1,5 @@
--- The turn weight W(v, c), operation by operation as code runs it in f64 (scope, "The sampled value"). Definitions only.
+-- The turn weight W(v, c), operation by operation as code runs it in f64 (scope, "The sampled value"). Definitions
+-- only.
 use mathlib.Core.Bool.{false}
 use Prim.Native.Nat.{ℕ, zero, suc, _+_, _*_}
 use lib.IntN.{pos, negsuc}
@@ -10,7 +11,8 @@ use Rattle.float.specs.Narrow.{narrowOf}
 abbrev pub int : ℕ → Float
 int n = ofInt binary64 (pos n)
 
--- Scope, "The sampled value": G = 1 + ((i·i - v·v)·(1-c) / (i·(2i+1)))·G, with vv for v·v, d for 1-c and g for the G on the right.
+-- Scope, "The sampled value": G = 1 + ((i·i - v·v)·(1-c) / (i·(2i+1)))·G, with vv for v·v, d for 1-c and g for the G on
+-- the right.
 unfoldable pub step : ℕ → Float → Float → Float → Float
 step i vv d g = int 1 ⊕ ((int (i * i) ⊖ vv) ⊗ d ⊘ int (i * (2 * i + 1))) ⊗ g
 
