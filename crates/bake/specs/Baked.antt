@@ -5,11 +5,12 @@ use lib.Ieee.{Float}
 use lib.ListN.{length}
 use denote.Ref.{now}
 use Rattle.borrowed.specs.Slices.{Words, Floats}
+use Rattle.borrowed.specs.Slices as borrowed
 use Rattle.model.specs.Lists.{pick, isSome}
 use Rattle.model.specs.Bake as model
 use Rattle.tables.specs.Decoded.{Lent, sceneOf}
 use Rattle.checks.specs.Drawn.{tablesNumber}
-use Rattle.bake_stages.specs.Scratch.{Slices, SlicesChange, scratchRoom, roomOf, scratchLeft}
+use Rattle.bake_stages.specs.Scratch.{Slices, scratchRoom, roomOf, scratchLeft}
 use Rattle.bake.specs.declared.Answer.{Answer}
 
 -- the scratch room and the three outputs (the scope's bench and sheets)
@@ -18,22 +19,30 @@ pub record Room : Type 0 where
   pub output : model.Output
 
 -- as a call that borrows it finds it, and as it leaves it
-pub record Change : Type 0 where
-  pub from : Room
-  pub to : Room
+abbrev pub Change : Type 0
+Change = borrowed.Change Room
+
+abbrev pub outputRoom : Floats → Floats → Floats → borrowed.Change model.Output
+outputRoom positions normals tangents = record {
+  from = record {
+    positions = now (positions .entry);
+    normals = now (normals .entry);
+    tangents = now (tangents .entry);
+  };
+  to = record {
+    positions = now (positions .exit);
+    normals = now (normals .exit);
+    tangents = now (tangents .exit);
+  };
+}
 
 abbrev pub room : Words → Floats → Words → Words → Floats → Floats → Floats → Floats → Change
 room marks slots walk places worlds positions normals tangents =
     let scratch = scratchRoom marks slots walk places worlds in
+    let output = outputRoom positions normals tangents in
     record {
-      from = record {
-        scratch = scratch .from;
-        output = record { positions = now (positions .entry); normals = now (normals .entry); tangents = now (tangents .entry) };
-      };
-      to = record {
-        scratch = scratch .to;
-        output = record { positions = now (positions .exit); normals = now (normals .exit); tangents = now (tangents .exit) };
-      };
+      from = record { scratch = scratch .from; output = output .from };
+      to = record { scratch = scratch .to; output = output .to };
     }
 
 -- node i at a time, with as much room
@@ -51,15 +60,23 @@ abbrev pub outcome : Lent → ℕ → Float → Room → model.Outcome
 outcome l i time lent = model.bake (tablesNumber l) (sceneOf l) (requestOf i time lent)
 
 abbrev pub answerOf : Answer → model.Answer
-answerOf a = record { refusal = a .number; positions = a .positions; normals = a .normals; tangents = a .tangents; taken = a .taken }
+answerOf a = record {
+  refusal = a .number;
+  positions = a .positions;
+  normals = a .normals;
+  tangents = a .tangents;
+  taken = a .taken;
+}
 
--- each output starts with the result and is as lent past it, and refused as lent; the scratch room is as an accepted call leaves it, or as lent
--- after 1 to 7
+-- each output starts with the result and is as lent past it, and refused as lent; the scratch room is as an accepted
+-- call leaves it, or as lent after 1 to 7
 unfoldable pub roomAfter : Lent → ℕ → Float → Room → Room
 roomAfter l i time lent =
     let o = outcome l i time lent .output in
     record {
-      scratch = pick (isSome (model.leftBy (tablesNumber l) (sceneOf l) (requestOf i time lent))) (scratchLeft l time (lent .scratch)) (lent .scratch);
+      scratch =
+          pick (isSome (model.leftBy (tablesNumber l) (sceneOf l) (requestOf i time lent)))
+          (scratchLeft l time (lent .scratch)) (lent .scratch);
       output = record {
         positions = model.written (o .positions) (lent .output .positions);
         normals = model.written (o .normals) (lent .output .normals);

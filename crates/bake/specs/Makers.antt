@@ -1,7 +1,9 @@
--- Two makers in one scene: demand 3; scope, "Two makers, one scene". What two runs are lent alike, and what they then show alike. Definitions only.
+-- Two makers in one scene: demand 3; scope, "Two makers, one scene". What two runs are lent alike, and what they then
+-- show alike. Definitions only.
 use mathlib.Core.Path.{_≡_}
 use Prim.Native.Nat.{ℕ, _≤_}
 use lib.ListN.{length, take}
+use Rattle.model.specs.Refusals.{number, outOfTable, shortScratch}
 use Rattle.bake.specs.declared.Answer.{Answer}
 use Rattle.bake.specs.Baked.{Room}
 
@@ -18,7 +20,7 @@ pub record SameLengths (r s : Room) : Type 0 where
 
 -- not refused with a number from 1 to 6
 abbrev pub NotRefusedEarly : Answer → Type 0
-NotRefusedEarly a = 1 ≤ a .number → a .number ≤ 6 → ⊥
+NotRefusedEarly a = number outOfTable ≤ a .number → a .number ≤ number shortScratch → ⊥
 
 -- the whole answer, and each sheet up to the length that the answer gives for it
 pub record SameShown (a b : Answer) (r s : Room) : Type 0 where

@@ -37,7 +37,8 @@ fn fits(n: Lengths, positions: usize, normals: usize, tangents: usize) -> bool
 }
 
 // The mesh of a node in the world at a time: blended, skinned or transformed, its primitives one after the other in the
-// three outputs. The scratch room (pose slots, walk room, world slots) is lent, and holds the pose and the placing after.
+// three outputs. The scratch room (pose slots, walk room, world slots) is lent, and holds the pose and the placing
+// after.
 pub fn world_mesh_at<'a>(
     words: &[u32],
     floats: &[f32],

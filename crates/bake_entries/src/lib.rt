@@ -3,8 +3,8 @@ use tables::Header;
 ghost use Rattle.checks.specs.Drawn.{sceneLent};
 ghost use Rattle.bake.specs.Baked.{room, Baked};
 
-// The mesh of a node in the world at a time, its primitives one after the other in the three outputs. Answers 1, 2, 3, 5 to
-// 10 or 0.
+// The mesh of a node in the world at a time, its primitives one after the other in the three outputs. Answers 1, 2, 3,
+// 5 to 10 or 0.
 #[no_mangle]
 pub extern "C" fn bake_floats<'a>(
     words: &[u32],

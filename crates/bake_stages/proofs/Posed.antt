@@ -77,7 +77,9 @@ module _ (l : Lent) (time : Float) (lent : Slices) where
     -- what the two stages leave
     pub left : (marks walk places′ : List ℕ) (slots floats : List Float) (n : ℕ)
         → marks ≡ encodedWords time count tracks (lent .marks) → slots ≡ encodedFloats time count tracks (lent .slots)
-        → Run (listingIn (l .words) (l .header .graph)) (localIn (l .words) (l .floats) (l .header .graph .nodes) marks slots) (lent .walk) walk (lent .places) places′ (lent .worlds) floats n
+        → Run (listingIn (l .words) (l .header .graph)) (localIn (l .words) (l .floats) (l .header .graph .nodes) marks slots)
+        (record { from = lent .walk; to = walk }) (record { from = lent .places; to = places′ })
+        (record { from = lent .worlds; to = floats }) n
         → (n ≡ taken (sceneOf l)) × (record { marks = marks; slots = slots; walk = walk; places = places′; worlds = floats } ≡ scratchLeft l time lent)
     unfolding scratchLeft
     left marks walk places′ slots floats n p q run =

@@ -1,4 +1,5 @@
--- The scratch room (the scope's bench) of a bake: what must hold of it, and what an accepted call leaves there. Definitions only.
+-- The scratch room (the scope's bench) of a bake: what must hold of it, and what an accepted call leaves there.
+-- Definitions only.
 use mathlib.Core.Path.{_≡_}
 use mathlib.Core.Bool.{false}
 use mathlib.Core.List.{List, _++_}
@@ -6,7 +7,7 @@ use Prim.Native.Nat.{ℕ, _*_, _≤_}
 use lib.Ieee.{Float, isNan}
 use lib.ListN.{length, drop, replicate}
 use denote.Ref.{now}
-use Rattle.borrowed.specs.Slices.{Words, Floats}
+use Rattle.borrowed.specs.Slices.{Words, Floats, Change}
 use Rattle.model.specs.Limits.{channelLimit, nodeLimit}
 use Rattle.model.specs.Scene.{nodeCount}
 use Rattle.model.specs.Placing.{places, taken}
@@ -32,9 +33,8 @@ pub record Slices : Type 0 where
   pub worlds : List Float
 
 -- as a call that borrows them finds them, and as it leaves them
-pub record SlicesChange : Type 0 where
-  pub from : Slices
-  pub to : Slices
+abbrev pub SlicesChange : Type 0
+SlicesChange = Change Slices
 
 abbrev pub scratchRoom : Words → Floats → Words → Words → Floats → SlicesChange
 scratchRoom marks slots walk places worlds = record {
@@ -57,8 +57,8 @@ scratchRoom marks slots walk places worlds = record {
 abbrev pub roomOf : Slices → refusals.Scratch
 roomOf r = scratchOf (r .walk) (r .marks) (r .slots) (r .places) (r .worlds)
 
--- the pose and the place of every node, and its world, zeros where it has none; nothing waits in the walk room, and past the nodes the slots
--- are as lent
+-- the pose and the place of every node, and its world, zeros where it has none; nothing waits in the walk room, and
+-- past the nodes the slots are as lent
 unfoldable pub scratchLeft : Lent → Float → Slices → Slices
 scratchLeft l time lent =
     let s = sceneOf l in

@@ -22,4 +22,5 @@ skinPaletteFrom l k codes slots = skinPalette (worldFrom l codes slots) (sceneOf
 
 -- of what a node names: `some none` where that is no skin
 abbrev pub paletteFrom : Lent → Reference → List ℕ → List Float → Option (Option (List Matrix))
-paletteFrom l r codes slots = paletteWith (worldFrom l codes slots) (isMarked (r .mark)) (andThen (idOf r) (λ k. skeletonOf (sceneOf l) k))
+paletteFrom l r codes slots =
+    paletteWith (worldFrom l codes slots) (isMarked (r .mark)) (andThen (idOf r) (λ k. skeletonOf (sceneOf l) k))

@@ -5,11 +5,9 @@ use refusals::WEIGHT_LIMIT;
 use tables::Header;
 use tables::MeshRow;
 ghost use mathlib.Core.Path.{_≡_};
-ghost use lib.ListN.{length};
 ghost use Rattle.tables.specs.Records.{nodeRow, meshRow};
 ghost use Rattle.checks.specs.Drawn.{sceneLent};
-ghost use Rattle.shapes.specs.Rest.{lengthsBelow, AtMost, Drawable};
-ghost use Rattle.bake_writing.specs.Delivered.{partOf, SkeletonsWithin, Delivers};
+ghost use Rattle.bake_writing.specs.Delivered.{partOf, Deliverable, Delivers};
 
 // The record of a node's mesh.
 pub fn mesh_of(words: &[u32], h: Header, node: u32) -> MeshRow
@@ -21,8 +19,8 @@ pub fn mesh_of(words: &[u32], h: Header, node: u32) -> MeshRow
     tables::mesh_row(words, h.meshes.meshes, wide(row.mesh.id))
 }
 
-// Puts out the mesh of a node, in the pose and the placing that the scratch room holds; the tables have been checked, and
-// the outputs are long enough.
+// Puts out the mesh of a node, in the pose and the placing that the scratch room holds; the tables have been checked,
+// and the outputs are long enough.
 pub fn deliver<'a>(
     words: &[u32],
     floats: &[f32],
@@ -38,10 +36,8 @@ pub fn deliver<'a>(
     normals: &mut [f32],
     tangents: &mut [f32],
 )
-    requires { ⌜ Drawable (now words) (now floats) (h .meshes .primitives) (partOf (now words) h node)
-        × AtMost (lengthsBelow (now words) (h .meshes .primitives) (partOf (now words) h node)
-        (partOf (now words) h node .count)) (length (now positions)) (length (now normals)) (length (now tangents))
-        × SkeletonsWithin (now words) (h .skins .skeletons) ⌝ }
+    requires { ⌜ Deliverable (now words) (now floats) h (partOf (now words) h node) (now positions) (now normals)
+        (now tangents) ⌝ }
     ensures { λ _. ⌜ Delivers (sceneLent words floats «node_weights» «mesh_weights» h) node time marks places worlds
         positions normals tangents ⌝ }
 {

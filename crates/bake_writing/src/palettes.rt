@@ -1,3 +1,4 @@
+use refusals::JOINT_LIMIT;
 use scene::Mat4;
 use skin::Joints;
 use tables::Header;
@@ -5,15 +6,15 @@ use tables::Reference;
 use tracks::Part;
 ghost use mathlib.Core.Path.{_≡_};
 ghost use mathlib.Core.List.{List, []};
-ghost use mathlib.Core.Option.{Option, some};
 ghost use lib.Ieee.{Float};
 ghost use lib.ListN.{length};
 ghost use Rattle.model.specs.Lists.{orElse};
-ghost use Rattle.model.specs.Matrix.{Matrix};
 ghost use Rattle.checks.specs.Drawn.{lentAs};
-ghost use Rattle.shapes.specs.Rest.{lengthsBelow, AtMost, Drawable};
-ghost use Rattle.bake_stages.specs.Skinned.{skinPaletteFrom, paletteFrom};
-ghost use Rattle.bake_writing.specs.Delivered.{SkeletonsWithin, MeshPutOut};
+ghost use Rattle.bake_stages.specs.Skinned.{skinPaletteFrom};
+ghost use Rattle.bake_writing.specs.Delivered.{SkinnedPutOut, NamedPutOut, Deliverable};
+
+// The floats of a palette with as many joints as a skeleton may have.
+const PALETTE: usize = JOINT_LIMIT * 16;
 
 // How many joint matrices the palette of a skin has; 0 where there is none.
 fn joints_of(words: &[u32], floats: &[f32], h: Header, skin: u32, places: &[u32]) -> usize
@@ -42,15 +43,11 @@ fn put_skinned(
     normals: &mut [f32],
     tangents: &mut [f32],
 )
-    requires { ⌜ Drawable (now words) (now floats) (h .meshes .primitives) part
-        × AtMost (lengthsBelow (now words) (h .meshes .primitives) part (part .count)) (length (now positions))
-        (length (now normals)) (length (now tangents)) × SkeletonsWithin (now words) (h .skins .skeletons) ⌝ }
-    ensures { λ _. ⌜ ((own mesh : List Float) (p : List Matrix)
-        → skinPaletteFrom (lentAs (now (words .entry)) (now (floats .entry)) own mesh h) skin (now (places .entry))
-        (now (worlds .entry)) ≡ some p → MeshPutOut words floats h part (world .m)
-        (some p) weights positions normals tangents) ⌝ }
+    requires { ⌜ Deliverable (now words) (now floats) h part (now positions) (now normals) (now tangents) ⌝ }
+    ensures { λ _. ⌜ SkinnedPutOut words floats h part (world .m) skin places worlds weights positions normals
+        tangents ⌝ }
 {
-    let mut palette = [0.0f32; 4096];
+    let mut palette = [0.0f32; PALETTE];
     skin::write_palette(words, floats, h, skin, places, worlds, &mut palette);
     let n = joints_of(words, floats, h, skin, places) * 16;
     shapes::write_mesh(
@@ -83,13 +80,9 @@ pub(crate) fn put_out(
     normals: &mut [f32],
     tangents: &mut [f32],
 )
-    requires { ⌜ Drawable (now words) (now floats) (h .meshes .primitives) part
-        × AtMost (lengthsBelow (now words) (h .meshes .primitives) part (part .count)) (length (now positions))
-        (length (now normals)) (length (now tangents)) × SkeletonsWithin (now words) (h .skins .skeletons) ⌝ }
-    ensures { λ _. ⌜ ((own mesh : List Float) (p : Option (List Matrix))
-        → paletteFrom (lentAs (now (words .entry)) (now (floats .entry)) own mesh h) skin (now (places .entry))
-        (now (worlds .entry)) ≡ some p → MeshPutOut words floats h part
-        (world .m) p weights positions normals tangents) ⌝ }
+    requires { ⌜ Deliverable (now words) (now floats) h part (now positions) (now normals) (now tangents) ⌝ }
+    ensures { λ _. ⌜ NamedPutOut words floats h part (world .m) skin places worlds weights positions normals
+        tangents ⌝ }
 {
     if tables::is_marked(skin.mark) {
         put_skinned(

@@ -61,8 +61,8 @@ fn weights_word(marks: &[u32], i: usize) -> u32
     0
 }
 
-// The weights that a node's mesh is blended with, at the start of `out`: the posed ones, if there are any, otherwise the
-// node's or the mesh's, as many as there is room for. Answers how many.
+// The weights that a node's mesh is blended with, at the start of `out`: the posed ones, if there are any, otherwise
+// the node's or the mesh's, as many as there is room for. Answers how many.
 pub(crate) fn weights_into<'a>(
     words: &[u32],
     floats: &[f32],

@@ -7,11 +7,13 @@ use Rattle.model.specs.Scene.{nodeCount}
 use Rattle.model.specs.Placing.{childEntries}
 use Rattle.model.specs.Limits.{nodeLimit, rootLimit, channelLimit, childEntryLimit}
 use Rattle.tracks.specs.Tracks as tracks
-use Rattle.tables.specs.Records.{nodeRow, channelRow, meshRow, primitiveRow, targetRow, inBetweenRow, skinRow, skeletonRow}
+use Rattle.tables.specs.Records.{nodeRow, channelRow, meshRow, primitiveRow, targetRow, inBetweenRow, skinRow}
+use Rattle.tables.specs.Records.{skeletonRow}
 use Rattle.tables.specs.Tags.{trackFor}
 use Rattle.tables.specs.Decoded.{Lent, sceneOf}
 use Rattle.row_checks.specs.Places.{fitsIn, nodeFits, meshFits, primitiveFits, targetFits, inBetweenFits, skeletonFits}
-use Rattle.row_checks.specs.Bounds.{nodeWithin, tagsKnown, meshWithin, primitiveWithin, targetWithin, inBetweenWithin, skinWithin, skeletonWithin}
+use Rattle.row_checks.specs.Bounds.{nodeWithin, tagsKnown, meshWithin, primitiveWithin, targetWithin, inBetweenWithin}
+use Rattle.row_checks.specs.Bounds.{skinWithin, skeletonWithin}
 use Rattle.checks.specs.declared.Table.{Table}
 use Rattle.checks.specs.declared.Table.the-variants as table
 use Rattle.checks.specs.Drawn.{tableOf, recordWords, sizesOf, sumBelow, childCount}
@@ -51,4 +53,5 @@ pub record Checked (l : Lent) : Type 0 where
   pub few-roots : length (sceneOf l .roots) ≤ rootLimit
   pub few-channels : length (sceneOf l .tracks) ≤ channelLimit
   pub few-children : childEntries (sceneOf l) ≤ childEntryLimit
-  pub children : sumBelow (l .header .graph .nodes .count) (childCount (l .words) (l .header .graph .nodes)) ≡ childEntries (sceneOf l)
+  pub children : sumBelow (l .header .graph .nodes .count) (childCount (l .words) (l .header .graph .nodes))
+      ≡ childEntries (sceneOf l)

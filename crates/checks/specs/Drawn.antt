@@ -1,5 +1,5 @@
--- What the tables of a lent scene draw: 1, 2, or 0 for neither, over all that is lent, used or not (docs/TABLES.md; scope, "Numbers when a piece
--- is turned down"). The lowest number that applies is drawn. Definitions only.
+-- What the tables of a lent scene draw: 1, 2, or 0 for neither, over all that is lent, used or not (docs/TABLES.md;
+-- scope, "Numbers when a piece is turned down"). The lowest number that applies is drawn. Definitions only.
 use mathlib.Core.Path.{_≡_}
 use mathlib.Core.Bool.{Bool, true}
 use mathlib.Core.List.{List}
@@ -15,12 +15,15 @@ use Rattle.model.specs.Refusals.{number, outOfTable, overLimit}
 use Rattle.tracks.specs.declared.Part.{Part}
 use Rattle.tracks.specs.Tracks as tracks
 use Rattle.tables.specs.declared.Header.{Header}
-use Rattle.tables.specs.Records.{nodeWords, channelWords, meshWords, primitiveWords, targetWords, inBetweenWords, skinWords, skeletonWords, nodeRow, channelRow, meshRow, primitiveRow, targetRow, inBetweenRow, skinRow, skeletonRow}
+use Rattle.tables.specs.Records.{nodeWords, channelWords, meshWords, primitiveWords, targetWords, inBetweenWords}
+use Rattle.tables.specs.Records.{skinWords, skeletonWords, nodeRow, channelRow, meshRow, primitiveRow, targetRow}
+use Rattle.tables.specs.Records.{inBetweenRow, skinRow, skeletonRow}
 use Rattle.tables.specs.Tags.{trackFor}
 use Rattle.tables.specs.Decoded.{Lent}
 use Rattle.row_checks.specs.declared.Sizes.{Sizes}
 use Rattle.row_checks.specs.Places.{fitsIn, nodeFits, meshFits, primitiveFits, targetFits, inBetweenFits, skeletonFits}
-use Rattle.row_checks.specs.Bounds.{nodeWithin, tagsKnown, meshWithin, primitiveWithin, targetWithin, inBetweenWithin, skinWithin, skeletonWithin}
+use Rattle.row_checks.specs.Bounds.{nodeWithin, tagsKnown, meshWithin, primitiveWithin, targetWithin, inBetweenWithin}
+use Rattle.row_checks.specs.Bounds.{skinWithin, skeletonWithin}
 use Rattle.checks.specs.declared.Table.{Table}
 use Rattle.checks.specs.declared.Table.the-variants as table
 
@@ -52,19 +55,22 @@ nodeNumber words s t i = drawn (nodeFits s (nodeRow words t i)) (nodeWithin (nod
 
 unfoldable pub channelNumber : List ℕ → List Float → Part → ℕ → ℕ
 channelNumber words floats t i =
-    lowerOf (tracks.tableNumber floats (trackFor (channelRow words t i))) (drawn true (tagsKnown (channelRow words t i)))
+    lowerOf (tracks.tableNumber floats (trackFor (channelRow words t i)))
+    (drawn true (tagsKnown (channelRow words t i)))
 
 unfoldable pub meshNumber : List ℕ → Sizes → Part → ℕ → ℕ
 meshNumber words s t i = drawn (meshFits s (meshRow words t i)) (meshWithin (meshRow words t i))
 
 unfoldable pub primitiveNumber : List ℕ → Sizes → Part → ℕ → ℕ
-primitiveNumber words s t i = drawn (primitiveFits s (primitiveRow words t i)) (primitiveWithin (primitiveRow words t i))
+primitiveNumber words s t i =
+    drawn (primitiveFits s (primitiveRow words t i)) (primitiveWithin (primitiveRow words t i))
 
 unfoldable pub targetNumber : List ℕ → Sizes → Part → ℕ → ℕ
 targetNumber words s t i = drawn (targetFits s (targetRow words t i)) (targetWithin (targetRow words t i))
 
 unfoldable pub inBetweenNumber : List ℕ → Sizes → Part → ℕ → ℕ
-inBetweenNumber words s t i = drawn (inBetweenFits s (inBetweenRow words t i)) (inBetweenWithin (inBetweenRow words t i))
+inBetweenNumber words s t i =
+    drawn (inBetweenFits s (inBetweenRow words t i)) (inBetweenWithin (inBetweenRow words t i))
 
 -- ids are no offsets, so a skin leaves no table
 unfoldable pub skinNumber : List ℕ → Part → ℕ → ℕ
@@ -113,7 +119,7 @@ recordWords table.Skeletons = skeletonWords
 
 -- one above the limit of child entries, which tells that it is passed
 abbrev pub entryCap : ℕ
-entryCap = 8193
+entryCap = childEntryLimit + 1
 
 -- the paper limits nodes and channels
 abbrev pub countWithin : Table → ℕ → Bool
@@ -132,7 +138,8 @@ tableNumber len t k = drawn (fitsIn t (recordWords k) len) (countWithin k (t .co
 -- with all its records
 unfoldable pub wholeNumber : List ℕ → List Float → Sizes → Header → Table → ℕ
 wholeNumber words floats s h k =
-    lowerOf (tableNumber (length words) (tableOf h k) k) (lowestBelow (tableOf h k .count) (rowNumber words floats s (tableOf h k) k))
+    lowerOf (tableNumber (length words) (tableOf h k) k)
+    (lowestBelow (tableOf h k .count) (rowNumber words floats s (tableOf h k) k))
 
 -- ---- roots and child entries
 

@@ -1,5 +1,5 @@
-// What the tables of a lent scene draw: 1 where a part leaves its table, 2 where a limit is passed, over all that is lent,
-// used or not. docs/TABLES.md has the layout and the limits.
+// What the tables of a lent scene draw: 1 where a part leaves its table, 2 where a limit is passed, over all that is
+// lent, used or not. docs/TABLES.md has the layout and the limits.
 mod numbers;
 mod records;
 

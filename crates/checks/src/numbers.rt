@@ -14,7 +14,9 @@ use tracks::Part;
 ghost use mathlib.Core.Path.{_≡_};
 ghost use Prim.Native.Nat.{_+_, min};
 ghost use lib.ListN.{length};
-ghost use Rattle.checks.specs.Drawn.{ByCount, recordWords, countWithin, tableNumber, wholeNumber, entriesNumber, childrenNumber, rootsNumber, listedNumber, sizesFor, tablesNumber, sceneLent, entryCap, cappedEntries};
+ghost use Rattle.checks.specs.Drawn.{ByCount, recordWords, countWithin, tableNumber, wholeNumber, entriesNumber};
+ghost use Rattle.checks.specs.Drawn.{childrenNumber, rootsNumber, listedNumber, sizesFor, tablesNumber};
+ghost use Rattle.checks.specs.Drawn.{sceneLent, entryCap, cappedEntries};
 
 // The words of a record.
 pub fn record_words(k: Table) -> usize
@@ -70,7 +72,7 @@ fn whole_number(words: &[u32], s: Sizes, h: Header, k: Table) -> u32
 }
 
 // One above the limit of child entries, which tells that it is passed.
-const ENTRY_CAP: usize = 8193;
+const ENTRY_CAP: usize = CHILD_ENTRY_LIMIT + 1;
 
 // A sum with a count more, as far as the cap.
 pub fn capped(sum: usize, count: usize) -> usize

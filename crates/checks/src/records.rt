@@ -20,7 +20,9 @@ use row_checks::target_within;
 use tables::Header;
 use tracks::Part;
 ghost use mathlib.Core.Path.{_≡_};
-ghost use Rattle.checks.specs.Drawn.{ByCount, drawn, lowerOf, lowestBelow, tableOf, nodeNumber, channelNumber, meshNumber, primitiveNumber, targetNumber, inBetweenNumber, skinNumber, skeletonNumber, rowNumber};
+ghost use Rattle.checks.specs.Drawn.{ByCount, drawn, lowerOf, lowestBelow, tableOf, nodeNumber, channelNumber};
+ghost use Rattle.checks.specs.Drawn.{meshNumber, primitiveNumber, targetNumber, inBetweenNumber, skinNumber};
+ghost use Rattle.checks.specs.Drawn.{skeletonNumber, rowNumber};
 
 pub(crate) fn drawn(fits: bool, within: bool) -> u32
     ensures { λ r. ⌜ r ≡ drawn fits within ⌝ }

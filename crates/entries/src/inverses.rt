@@ -1,15 +1,16 @@
-// The inverses of `scene` over arrays of fixed length: 1 where there is one, written to `out`, and 0 where there is none.
+// The inverses of `scene` over arrays of fixed length: 1 where there is one, written to `out`, and 0 where there is
+// none.
 use scene::Inverse;
 use scene::Linear;
 use scene::Mat4;
 ghost use Rattle.model.specs.Matrix.{inverseTranspose};
 ghost use Rattle.model.specs.Inverse.{affineInverse, normalMatrix};
-ghost use Rattle.model.specs.Written.{Answered};
+ghost use Rattle.borrowed.specs.Written.{Answers};
 
 // The inverse transpose of the linear part.
 #[no_mangle]
 pub extern "C" fn scene_linear_inverse_transpose(m: &[f32; 16], out: &mut [f32; 9]) -> u32
-    ensures { λ r. ⌜ Answered (inverseTranspose (now (m .entry))) (now (out .entry)) (now (out .exit)) r ⌝ }
+    ensures { λ r. ⌜ Answers (inverseTranspose (now (m .entry))) out r ⌝ }
 {
     let m = *m;
     match inverse::linear_inverse_transpose(Mat4 { m }) {
@@ -34,7 +35,7 @@ pub extern "C" fn scene_linear_inverse_transpose(m: &[f32; 16], out: &mut [f32; 
 // The inverse of an affine matrix.
 #[no_mangle]
 pub extern "C" fn scene_mat4_affine_inverse(m: &[f32; 16], out: &mut [f32; 16]) -> u32
-    ensures { λ r. ⌜ Answered (affineInverse (now (m .entry))) (now (out .entry)) (now (out .exit)) r ⌝ }
+    ensures { λ r. ⌜ Answers (affineInverse (now (m .entry))) out r ⌝ }
 {
     let m = *m;
     match inverse::mat4_affine_inverse(Mat4 { m }) {
@@ -66,7 +67,7 @@ pub extern "C" fn scene_mat4_affine_inverse(m: &[f32; 16], out: &mut [f32; 16]) 
 // The linear part of the inverse, transposed.
 #[no_mangle]
 pub extern "C" fn scene_normal_matrix(m: &[f32; 16], out: &mut [f32; 9]) -> u32
-    ensures { λ r. ⌜ Answered (normalMatrix (now (m .entry))) (now (out .entry)) (now (out .exit)) r ⌝ }
+    ensures { λ r. ⌜ Answers (normalMatrix (now (m .entry))) out r ⌝ }
 {
     let m = *m;
     match inverse::normal_matrix(Mat4 { m }) {

@@ -7,12 +7,12 @@ ghost use Rattle.float.specs.Narrow.{narrowOf};
 ghost use Rattle.square_root.specs.Normal.{allNormal};
 ghost use Rattle.float.specs.Sqrt.{sqrtOf};
 ghost use Rattle.turn.specs.Weight.{weight};
-ghost use Rattle.model.specs.Written.{Wrote};
+ghost use Rattle.borrowed.specs.Written.{Writes};
 
 // The root of each x.
 #[no_mangle]
 pub extern "C" fn sqrt_all(xs: &[f32], out: &mut [f32]) -> usize
-    ensures { λ r. ⌜ Wrote (map (sqrtOf binary32) (now (xs .entry))) (now (out .entry)) (now (out .exit)) r ⌝ }
+    ensures { λ r. ⌜ Writes (map (sqrtOf binary32) (now (xs .entry))) out r ⌝ }
 {
     let n = wire::least(xs.len(), out.len());
     let mut i = 0;
@@ -26,7 +26,7 @@ pub extern "C" fn sqrt_all(xs: &[f32], out: &mut [f32]) -> usize
 // Each x narrowed.
 #[no_mangle]
 pub extern "C" fn narrow_all(xs: &[f64], out: &mut [f32]) -> usize
-    ensures { λ r. ⌜ Wrote (map narrowOf (now (xs .entry))) (now (out .entry)) (now (out .exit)) r ⌝ }
+    ensures { λ r. ⌜ Writes (map narrowOf (now (xs .entry))) out r ⌝ }
 {
     let n = wire::least(xs.len(), out.len());
     let mut i = 0;
@@ -40,8 +40,7 @@ pub extern "C" fn narrow_all(xs: &[f64], out: &mut [f32]) -> usize
 // The turn weight at each v and c.
 #[no_mangle]
 pub extern "C" fn turn_weight_all(vs: &[f32], cs: &[f32], out: &mut [f32]) -> usize
-    ensures { λ r. ⌜ Wrote (zipWith weight (now (vs .entry)) (now (cs .entry))) (now (out .entry))
-        (now (out .exit)) r ⌝ }
+    ensures { λ r. ⌜ Writes (zipWith weight (now (vs .entry)) (now (cs .entry))) out r ⌝ }
 {
     let n = wire::least(wire::least(vs.len(), cs.len()), out.len());
     let mut i = 0;

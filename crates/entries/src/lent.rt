@@ -2,10 +2,11 @@
 use tables::Header;
 use worlds::Answer;
 ghost use mathlib.Core.Path.{_≡_};
+ghost use Rattle.borrowed.specs.Slices.{change};
 ghost use Rattle.checks.specs.Drawn.{sceneLent, tablesNumber};
 ghost use Rattle.graph.specs.Marks.{Parents};
 ghost use Rattle.pose.specs.Encoded.{Posed};
-ghost use Rattle.worlds.specs.Placed.{Placed};
+ghost use Rattle.worlds.specs.Placed.{NodesPlaced};
 
 // 1, 2 or 0: what the tables draw, over all that is lent.
 #[no_mangle]
@@ -21,8 +22,8 @@ pub extern "C" fn tables_number(
     checks::tables_number(words, floats, node_weights, mesh_weights, header)
 }
 
-// The mark of each node, written to the start of `out`: 0 for none, 1 for a root, p + 3 where node p lists it. Answers 1, 2,
-// 10 or 0.
+// The mark of each node, written to the start of `out`: 0 for none, 1 for a root, p + 3 where node p lists it. Answers
+// 1, 2, 10 or 0.
 #[no_mangle]
 pub extern "C" fn parents(
     words: &[u32],
@@ -32,8 +33,7 @@ pub extern "C" fn parents(
     header: Header,
     out: &mut [u32],
 ) -> u32
-    ensures { λ r. ⌜ Parents (sceneLent words floats «node_weights» «mesh_weights» header) (now (out .entry))
-        (now (out .exit)) r ⌝ }
+    ensures { λ r. ⌜ Parents (sceneLent words floats «node_weights» «mesh_weights» header) (change out) r ⌝ }
 {
     graph::parents(words, floats, node_weights, mesh_weights, header, out)
 }
@@ -52,9 +52,8 @@ pub extern "C" fn place_floats(
     places: &mut [u32],
     worlds: &mut [f32],
 ) -> Answer
-    ensures { λ r. ⌜ Placed (sceneLent words floats «node_weights» «mesh_weights» header) (now (marks .entry))
-        (now (slots .entry)) (now (walk .entry)) (now (walk .exit)) (now (places .entry)) (now (places .exit))
-        (now (worlds .entry)) (now (worlds .exit)) r ⌝ }
+    ensures { λ r. ⌜ NodesPlaced (sceneLent words floats «node_weights» «mesh_weights» header) (now (marks .entry))
+        (now (slots .entry)) (change walk) (change places) (change worlds) r ⌝ }
 {
     worlds::posed_node_transforms(
         words,
@@ -82,8 +81,8 @@ pub extern "C" fn sample_pose(
     marks: &mut [u32],
     slots: &mut [f32],
 ) -> u32
-    ensures { λ r. ⌜ Posed (sceneLent words floats «node_weights» «mesh_weights» header) time (now (marks .entry))
-        (now (slots .entry)) (now (marks .exit)) (now (slots .exit)) r ⌝ }
+    ensures { λ r. ⌜ Posed (sceneLent words floats «node_weights» «mesh_weights» header) time (change marks)
+        (change slots) r ⌝ }
 {
     pose::sample_pose(
         words,

@@ -1,4 +1,5 @@
-// The functions of `scene` over arrays of fixed length: matrices and linear parts row by row, quaternions as x, y, z, w.
+// The functions of `scene` over arrays of fixed length: matrices and linear parts row by row, quaternions as x, y, z,
+// w.
 use scene::Direction;
 use scene::Mat3;
 use scene::Mat4;
@@ -13,7 +14,7 @@ ghost use Rattle.model.specs.Transform.{fromTrs, toMatrix, quaternion, split};
 ghost use Rattle.model.specs.Vertices.{affinePoint, transformedPoint};
 ghost use Rattle.scene.specs.Values.{vec3, quat, mat3, mat4, trs, transformOf};
 ghost use Rattle.entries.specs.Handed.{trsOf, chosen};
-ghost use Rattle.model.specs.Written.{Answered};
+ghost use Rattle.borrowed.specs.Written.{Answers};
 
 fn vector_of(v: [f32; 3]) -> Vec3
     ensures { λ r. ⌜ vec3 r ≡ v ⌝ }
@@ -77,7 +78,7 @@ pub extern "C" fn scene_vec3_len(v: &[f32; 3]) -> f32
 // v divided by its length, and 1; where there is no such direction, 0.
 #[no_mangle]
 pub extern "C" fn scene_normalize3(v: &[f32; 3], out: &mut [f32; 3]) -> u32
-    ensures { λ r. ⌜ Answered (normalized (now (v .entry))) (now (out .entry)) (now (out .exit)) r ⌝ }
+    ensures { λ r. ⌜ Answers (normalized (now (v .entry))) out r ⌝ }
 {
     let v = *v;
     match scene::normalize3(vector_of(v)) {

@@ -12,7 +12,7 @@ use Rattle.model.specs.Lists.{pick}
 use Rattle.model.specs.Scene.{Node, nodeCount, childrenAt}
 use Rattle.model.specs.Placing.{unplaced}
 use Rattle.model.specs.Parents.{markRoots, explore, marksOf}
-use Rattle.model.specs.Refusals.{shortOutput, firstOf, lowest}
+use Rattle.model.specs.Refusals.{number, shortOutput, firstOf, lowest}
 use Rattle.model.proofs.Numbers.{lowest-some}
 use Rattle.tables.specs.Decoded.{Lent, spanIn, sceneOf}
 use Rattle.tables.specs.Codes.{codesOf}
@@ -23,7 +23,7 @@ use Rattle.graph.specs.Stack.{Marked}
 use Rattle.graph.specs.Marks.{parentsNumber, Parents}
 
 module _ (l : Lent) (lent : List ℕ) where
-  pub refused : (r : ℕ) → r ≡ tablesNumber l → (r ≡ 0 → ⊥) → Parents l lent lent r
+  pub refused : (r : ℕ) → r ≡ tablesNumber l → (r ≡ 0 → ⊥) → Parents l (record { from = lent; to = lent }) r
   refused r e d = record {
     number = lowest-some r _ d ∙ ap (λ (g : ℕ). lowest g (firstOf (record { applies = ltb (length lent) (nodeCount (sceneOf l)); refusal = shortOutput } ∷ []))) e;
     slots = ap (λ (b : Bool). pick b (codesOf (marksOf (sceneOf l)) ++ drop (nodeCount (sceneOf l)) lent) lent) (sym (ne-eqb r 0 d));
@@ -34,7 +34,8 @@ module _ (l : Lent) (lent : List ℕ) where
   unfolding firstOf
   judged b z e = sym (λ i. lowest (z i) (pick (e i) 10 0))
 
-  pub short : tablesNumber l ≡ 0 → length lent < l .header .graph .nodes .count → Parents l lent lent 10
+  pub short : tablesNumber l ≡ 0 → length lent < l .header .graph .nodes .count
+      → Parents l (record { from = lent; to = lent }) (number shortOutput)
   short z b = record { number = judged true z (lt-ltb (length lent) (nodeCount (sceneOf l)) (omega (arith, node-count l))); slots = refl }
 
   -- the codes that the walk leaves are those of the scene
@@ -46,7 +47,7 @@ module _ (l : Lent) (lent : List ℕ) where
 
   pub written : (left : List ℕ) → tablesNumber l ≡ 0 → l .header .graph .nodes .count ≤ length lent
       → Marked (l .words) (l .header .graph .nodes) (spanIn (l .words) (l .header .graph .roots) 1) (length (take (l .header .graph .nodes .count) lent)) left
-      → Parents l lent (left ++ drop (l .header .graph .nodes .count) lent) 0
+      → Parents l (record { from = lent; to = left ++ drop (l .header .graph .nodes .count) lent }) 0
   written left z b m = record {
     number = judged false z (le-ltb (length lent) (nodeCount (sceneOf l)) (omega (arith, node-count l)));
     slots = (λ i. marks-are _ left (length-take-le _ lent b) m i ++ drop (sym (node-count l) i) lent);

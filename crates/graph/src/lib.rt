@@ -4,11 +4,12 @@ use refusals::SHORT_OUTPUT;
 mod walk;
 
 use tables::Header;
+ghost use Rattle.borrowed.specs.Slices.{change};
 ghost use Rattle.checks.specs.Drawn.{sceneLent};
 ghost use Rattle.graph.specs.Marks.{Parents};
 
-// Writes the mark of each node to the start of `out`: 0 where no way leads to it, 1 for a root, p + 3 where node p listed
-// it first. Where a number is answered, nothing is changed.
+// Writes the mark of each node to the start of `out`: 0 where no way leads to it, 1 for a root, p + 3 where node p
+// listed it first. Where a number is answered, nothing is changed.
 pub fn parents(
     words: &[u32],
     floats: &[f32],
@@ -17,8 +18,7 @@ pub fn parents(
     h: Header,
     out: &mut [u32],
 ) -> u32
-    ensures { λ r. ⌜ Parents (sceneLent words floats «node_weights» «mesh_weights» h) (now (out .entry))
-        (now (out .exit)) r ⌝ }
+    ensures { λ r. ⌜ Parents (sceneLent words floats «node_weights» «mesh_weights» h) (change out) r ⌝ }
 {
     let number = checks::tables_number(words, floats, node_weights, mesh_weights, h);
     if number != 0 {

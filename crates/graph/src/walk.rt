@@ -1,5 +1,7 @@
-// The walk over the listing. Ids wait in an array; one is pushed only as a root or when its node is marked, so as many wait
-// at most as there are roots and nodes.
+// The walk over the listing. Ids wait in an array; one is pushed only as a root or when its node is marked, so as many
+// wait at most as there are roots and nodes.
+use refusals::NODE_LIMIT;
+use refusals::ROOT_LIMIT;
 use tables::Graph;
 use tracks::Part;
 ghost use mathlib.Core.Path.{_≡_};
@@ -8,10 +10,10 @@ ghost use lib.ListN.{length, getD, replicate};
 ghost use Rattle.model.specs.Limits.{nodeLimit, rootLimit};
 ghost use Rattle.model.specs.Parents.{markOne, markAll, takeId};
 ghost use Rattle.tables.specs.Decoded.{spanIn, childrenIn};
-ghost use Rattle.graph.specs.Stack.{zeros, Turned, Rooted, Drained, Marked};
+ghost use Rattle.graph.specs.Stack.{zeros, TurnedIn, Rooted, Drained, Marked};
 
 // The most roots and nodes.
-const ROOM: usize = 2048;
+const ROOM: usize = NODE_LIMIT + ROOT_LIMIT;
 
 // Marks and pushes the roots, the last first. Returns how many wait.
 fn list_roots(roots: &[u32], ids: &mut [u32], marks: &mut [u32]) -> usize
@@ -36,8 +38,7 @@ fn list_roots(roots: &[u32], ids: &mut [u32], marks: &mut [u32]) -> usize
 // Node p lists x. Returns how many wait.
 fn list_one(p: u32, x: u32, ids: &mut [u32], marks: &mut [u32], top: usize) -> usize
     requires { ⌜ (p < nodeLimit) × (top + zeros (now marks) ≤ length (now ids)) ⌝ }
-    ensures { λ r. ⌜ Turned (markOne p x) (now (ids .entry)) top (now (marks .entry)) (now (ids .exit)) r
-        (now (marks .exit)) ⌝ }
+    ensures { λ r. ⌜ TurnedIn (markOne p x) ids marks top r ⌝ }
 {
     let k = x as usize;
     if k < marks.len() {
@@ -53,8 +54,7 @@ fn list_one(p: u32, x: u32, ids: &mut [u32], marks: &mut [u32], top: usize) -> u
 // Node p lists all of `list`, the last first. Returns how many wait.
 fn list_all(p: u32, list: &[u32], ids: &mut [u32], marks: &mut [u32], top: usize) -> usize
     requires { ⌜ (p < nodeLimit) × (top + zeros (now marks) ≤ length (now ids)) ⌝ }
-    ensures { λ r. ⌜ Turned (markAll p (now (list .entry))) (now (ids .entry)) top (now (marks .entry))
-        (now (ids .exit)) r (now (marks .exit)) ⌝ }
+    ensures { λ r. ⌜ TurnedIn (markAll p (now (list .entry))) ids marks top r ⌝ }
 {
     let mut at = top;
     let mut i = list.len();
@@ -69,8 +69,8 @@ fn list_all(p: u32, list: &[u32], ids: &mut [u32], marks: &mut [u32], top: usize
 // Takes the id at the top. Returns how many wait.
 fn step(words: &[u32], nodes: Part, ids: &mut [u32], marks: &mut [u32], top: usize) -> usize
     requires { ⌜ (0 < top) × (top + zeros (now marks) ≤ length (now ids)) × (length (now marks) ≤ nodeLimit) ⌝ }
-    ensures { λ r. ⌜ Turned (takeId (childrenIn (now (words .entry)) nodes) (getD (now (ids .entry)) (top - 1) 0))
-        (now (ids .entry)) (top - 1) (now (marks .entry)) (now (ids .exit)) r (now (marks .exit)) ⌝ }
+    ensures { λ r. ⌜ TurnedIn (takeId (childrenIn (now (words .entry)) nodes) (getD (now (ids .entry)) (top - 1) 0))
+        ids marks (top - 1) r ⌝ }
 {
     let t = top - 1;
     let id = ids[t];

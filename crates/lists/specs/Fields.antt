@@ -7,6 +7,8 @@ use lib.Ieee.{Float}
 use lib.ListN.{length, getD, take, drop}
 use Rattle.float.specs.F32.{f32}
 use Rattle.model.specs.Lists.{pick, part}
+use denote.Ref.{RefT, now}
+use denote.Triple.Both.{Both}
 use Rattle.model.specs.Written.{Wrote}
 
 -- n counts entries at the start of xs. The second part follows from the first, and is stated for those who lend them.
@@ -44,7 +46,14 @@ pub record Put {A : Type 0} (lent left : List A) (n : ℕ) : Type 0 where
   pub room : length left ≡ length lent
   pub rest : drop n left ≡ drop n lent
 
+-- in a slice that is borrowed
+abbrev pub Puts : {A : Type 0} → Both (RefT (List A)) (RefT (List A)) → ℕ → Type 0
+Puts out n = Put (now (out .entry)) (now (out .exit)) n
+
 -- as many of these as there is room for
 pub record Copied {A : Type 0} (entries lent left : List A) (n : ℕ) : Type 0 where
   pub counts : Counts n left
   pub wrote : Wrote entries lent left n
+
+abbrev pub Copies : {A : Type 0} → List A → Both (RefT (List A)) (RefT (List A)) → ℕ → Type 0
+Copies entries out n = Copied entries (now (out .entry)) (now (out .exit)) n

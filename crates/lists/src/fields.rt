@@ -3,7 +3,7 @@
 ghost use mathlib.Core.Path.{_≡_};
 ghost use Prim.Native.Nat.{_+_};
 ghost use lib.ListN.{getD};
-ghost use Rattle.lists.specs.Fields.{aheadOf, behindList, listAt, floatsOf, floatsAt, Copied};
+ghost use Rattle.lists.specs.Fields.{aheadOf, behindList, listAt, floatsOf, floatsAt, Copies};
 
 // The field at a place, 0 past the last.
 pub fn field(fields: &[u32], at: usize) -> u32
@@ -66,7 +66,7 @@ pub fn list_at(fields: &[u32], at: usize) -> &[u32]
 }
 
 fn copy_words(words: &[u32], out: &mut [u32]) -> usize
-    ensures { λ r. ⌜ Copied (now (words .entry)) (now (out .entry)) (now (out .exit)) r ⌝ }
+    ensures { λ r. ⌜ Copies (now (words .entry)) out r ⌝ }
 {
     let n = wire::least(words.len(), out.len());
     let mut i = 0;
@@ -78,7 +78,7 @@ fn copy_words(words: &[u32], out: &mut [u32]) -> usize
 }
 
 fn copy_floats(bits: &[u32], out: &mut [f32]) -> usize
-    ensures { λ r. ⌜ Copied (floatsOf (now (bits .entry))) (now (out .entry)) (now (out .exit)) r ⌝ }
+    ensures { λ r. ⌜ Copies (floatsOf (now (bits .entry))) out r ⌝ }
 {
     let n = wire::least(bits.len(), out.len());
     let mut i = 0;
@@ -91,14 +91,14 @@ fn copy_floats(bits: &[u32], out: &mut [f32]) -> usize
 
 // Copies the list at a place to the start of `out`, as far as there is room, and answers how many words.
 pub fn read_words(fields: &[u32], at: usize, out: &mut [u32]) -> usize
-    ensures { λ r. ⌜ Copied (listAt (now (fields .entry)) at) (now (out .entry)) (now (out .exit)) r ⌝ }
+    ensures { λ r. ⌜ Copies (listAt (now (fields .entry)) at) out r ⌝ }
 {
     copy_words(list_at(fields, at), out)
 }
 
 // The same of floats, by their bits.
 pub fn read_floats(fields: &[u32], at: usize, out: &mut [f32]) -> usize
-    ensures { λ r. ⌜ Copied (floatsAt (now (fields .entry)) at) (now (out .entry)) (now (out .exit)) r ⌝ }
+    ensures { λ r. ⌜ Copies (floatsAt (now (fields .entry)) at) out r ⌝ }
 {
     copy_floats(list_at(fields, at), out)
 }

@@ -3,7 +3,7 @@ use crate::Input;
 use crate::digits::is_field;
 use crate::digits::word;
 use libc::STDIN_FILENO;
-ghost use Rattle.lists.specs.Fields.{Put};
+ghost use Rattle.lists.specs.Fields.{Puts};
 
 // What nine bytes of the input say: a word if they are a field; and whether the input has ended before them.
 struct Next {
@@ -32,7 +32,7 @@ fn read_next() -> Next {
 
 // Reads fields to the start of `out`, to the end of the input or as far as there is room.
 pub fn read_fields(out: &mut [u32]) -> Input
-    ensures { λ r. ⌜ Put (now (out .entry)) (now (out .exit)) (r .count) ⌝ }
+    ensures { λ r. ⌜ Puts out (r .count) ⌝ }
 {
     let mut n = 0;
     while n < out.len() {

@@ -20,4 +20,5 @@ abbrev pub partOfWay : Float → Float → Float → Float
 partOfWay w low high = (w ⊖ low) ⊘ (high ⊖ low)
 
 unfoldable pub blendedIn : List Float → Slot → ℕ → Float → Slot → Slot → List Vector
-blendedIn floats own n t low high = tabulate (countIn floats own n) (mixedIn t (deltasIn floats low) (deltasIn floats high))
+blendedIn floats own n t low high =
+    tabulate (countIn floats own n) (mixedIn t (deltasIn floats low) (deltasIn floats high))

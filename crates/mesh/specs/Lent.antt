@@ -11,4 +11,5 @@ use Rattle.deltas.specs.Deltas.{lentIn}
 
 -- the targets that a part names
 abbrev pub targetsIn : List ℕ → List Float → Header → Part → List scene.Target
-targetsIn words floats h targets = recordsIn (λ i. targetOf (lentIn words floats h) (targetRow words (h .meshes .targets) i)) targets
+targetsIn words floats h targets =
+    recordsIn (λ i. targetOf (lentIn words floats h) (targetRow words (h .meshes .targets) i)) targets

@@ -1,4 +1,5 @@
--- The stations of a target as code keeps them: of all stations only the two ends of a segment, and the longest slots. Definitions only.
+-- The stations of a target as code keeps them: of all stations only the two ends of a segment, and the longest slots.
+-- Definitions only.
 use mathlib.Core.Path.{_≡_}
 use mathlib.Core.List.{List, [], _∷_}
 use mathlib.Core.Option.{Option, none}
@@ -19,7 +20,8 @@ use Rattle.deltas.specs.Betweens.{stationAt, keptIn}
 use Rattle.mesh.specs.declared.Segment.{Segment}
 use Rattle.mesh.specs.declared.Blend.{Blend}
 
--- ---- of the model: the segment of w in a list of two stations or more, and the longest of the slots, an absent one having no entries
+-- ---- of the model: the segment of w in a list of two stations or more, and the longest of the slots, an absent one
+-- having no entries
 
 abbrev blank : morph.Station
 blank = record { weight = zero32; positions = none; normals = none }
@@ -36,7 +38,11 @@ longestOf slot (s ∷ l) = max (length (orElse (slot s) [])) (longestOf slot l)
 -- ---- what a station and a segment of the code are
 
 abbrev pub stationFor : List Float → Station → morph.Station
-stationFor floats s = record { weight = s .weight; positions = slotIn floats (s .positions) 3; normals = slotIn floats (s .normals) 3 }
+stationFor floats s = record {
+  weight = s .weight;
+  positions = slotIn floats (s .positions) 3;
+  normals = slotIn floats (s .normals) 3;
+}
 
 abbrev pub segmentFor : List Float → Segment → morph.Segment
 segmentFor floats g = record { low = stationFor floats (g .low); high = stationFor floats (g .high) }

@@ -1,5 +1,5 @@
-// Morphed vertices, by the scope paper's rules: targets are added, one after the other, to positions, normals and tangents
-// that lie in lent flat slices.
+// Morphed vertices, by the scope paper's rules: targets are added, one after the other, to positions, normals and
+// tangents that lie in lent flat slices.
 use deltas::Station;
 use tables::Header;
 use tracks::Part;

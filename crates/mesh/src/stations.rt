@@ -9,8 +9,8 @@ ghost use lib.ListN.{length};
 ghost use Rattle.deltas.specs.Deltas.{deltasIn};
 ghost use Rattle.mesh.specs.Stations.{narrowedIn, widenedIn};
 
-// The segment of w, once the station s stands among those that g was found in. No list is kept: s takes the place of an end, or
-// none.
+// The segment of w, once the station s stands among those that g was found in. No list is kept: s takes the place of an
+// end, or none.
 fn narrowed(w: f32, g: Segment, s: Station) -> Segment
     ensures { λ r. ⌜ r ≡ narrowedIn w g s ⌝ }
 {

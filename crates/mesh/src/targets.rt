@@ -16,20 +16,19 @@ ghost use Rattle.model.specs.Attributes.{shapeOf};
 ghost use Rattle.tables.specs.Records.{targetRow};
 ghost use Rattle.tables.specs.Decoded.{targetOf};
 ghost use Rattle.deltas.specs.Deltas.{lentIn, deltasIn};
-ghost use Rattle.mesh.specs.Added.{Added};
+ghost use Rattle.mesh.specs.Added.{Adds};
 
 // Adds w times the deltas of a target to positions and normals.
 fn add_plain(floats: &[f32], row: TargetRow, w: f32, positions: &mut [f32], normals: &mut [f32])
-    ensures { λ _. ⌜ Added (λ v d. v ⊞ w ⊙ d) (rowsIn 3 (deltasIn (now (floats .entry)) (row .positions)))
-        (rowsIn 3 (deltasIn (now (floats .entry)) (row .normals))) (now (positions .entry)) (now (positions .exit))
-        (now (normals .entry)) (now (normals .exit)) ⌝ }
+    ensures { λ _. ⌜ Adds (λ v d. v ⊞ w ⊙ d) (rowsIn 3 (deltasIn (now (floats .entry)) (row .positions)))
+        (rowsIn 3 (deltasIn (now (floats .entry)) (row .normals))) positions normals ⌝ }
 {
     add_scaled(positions, w, deltas_in(floats, row.positions));
     add_scaled(normals, w, deltas_in(floats, row.normals));
 }
 
-// Adds a target at weight w: nothing at 0, by its stations if an in-between has a valid weight, else w times its deltas. Tangents
-// have no stations.
+// Adds a target at weight w: nothing at 0, by its stations if an in-between has a valid weight, else w times its
+// deltas. Tangents have no stations.
 fn add_target(
     words: &[u32],
     floats: &[f32],

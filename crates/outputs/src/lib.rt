@@ -1,6 +1,6 @@
 // Results that are copied into an output.
 use refusals::SHORT_OUTPUT;
-ghost use Rattle.outputs.specs.Output.{CopiedOut};
+ghost use Rattle.outputs.specs.Output.{CopiesOut};
 
 // A refusal number, or 0, and how many floats were copied.
 pub struct Copied {
@@ -11,8 +11,7 @@ pub struct Copied {
 // Copies a result to the start of `out`, where the number of the call for it is 0; without room for all of it the
 // number is 10. Where a number is answered, nothing is changed.
 pub fn copy_out(number: u32, result: &[f32], out: &mut [f32]) -> Copied
-    ensures { λ r. ⌜ CopiedOut number (now (result .entry)) (now (out .entry)) (now (out .exit))
-        (r .number) (r .count) ⌝ }
+    ensures { λ r. ⌜ CopiesOut number (now (result .entry)) out r ⌝ }
 {
     if number != 0 {
         return Copied { number, count: 0 };

@@ -4,9 +4,10 @@ use mathlib.Core.List.{List, [], _∷_, map, append-nil}
 use Prim.Native.Nat.{ℕ, suc, _+_, _-_, _*_, _≤_, _<_}
 use native.Mathlib.Omega.{arith}
 use lib.ListN.{length, replicate, length-replicate}
+use Rattle.borrowed.specs.Slices.{Change}
 use Rattle.model.specs.Lists.{sumOf}
 use Rattle.model.specs.Scene.{Scene, Node, nodeCount, childrenAt}
-use Rattle.placing.specs.Walk.{entriesOf, Change}
+use Rattle.placing.specs.Walk.{entriesOf}
 use Rattle.placing.specs.Bench.{Item, listedAs, itemAt, stackOf, waiting, childCounts, pending, Marks, State, takeOne, drained, Named, Ready, Started, Stepped}
 use Rattle.placing.proofs.Stack.{stack-length, stack-top, named-listed}
 use Rattle.placing.proofs.Unplaced.{free-all}
@@ -28,9 +29,9 @@ unfolding sumOf waiting
 all-to-come [] = refl
 all-to-come (n ∷ ns) = ap (λ (k : ℕ). length (n .children) + k) (all-to-come ns)
 
-module _ (s : Scene) (codes room : Change) (top : ℕ) (S : Started s codes room top)
-    (nodes : nodeCount s ≡ length (codes .lent)) where
-  pub bound : entriesOf s ≡ pending s top (codes .left)
+module _ (s : Scene) (codes room : Change (List ℕ)) (top : ℕ) (S : Started s codes room top)
+    (nodes : nodeCount s ≡ length (codes .from)) where
+  pub bound : entriesOf s ≡ pending s top (codes .to)
   bound =
       omega (
         arith,
@@ -40,17 +41,17 @@ module _ (s : Scene) (codes room : Change) (top : ℕ) (S : Started s codes room
         ap (λ (k : ℕ). waiting (childCounts s) (replicate k 0)) nodes,
       )
 
-  pub roots-ready : (order : List ℕ) → length (codes .lent) ≤ 1024 → length (codes .lent) ≤ length order
-      → 2 * entriesOf s ≤ length (room .left)
-      → Ready s (room .left) (codes .left) order top 0 × Named (stackOf (room .left) top)
+  pub roots-ready : (order : List ℕ) → length (codes .from) ≤ 1024 → length (codes .from) ≤ length order
+      → 2 * entriesOf s ≤ length (room .to)
+      → Ready s (room .to) (codes .to) order top 0 × Named (stackOf (room .to) top)
   roots-ready order few long room =
-      let same : length (codes .left) ≡ length (codes .lent) =
-      ap length (S .places) ∙ length-replicate {A = ℕ} (length (codes .lent)) 0 in (
+      let same : length (codes .to) ≡ length (codes .from) =
+      ap length (S .places) ∙ length-replicate {A = ℕ} (length (codes .from)) 0 in (
         record {
           nodes = nodes ∙ sym same;
           few = omega arith;
           room = omega (arith, bound);
-          left = omega (arith, (λ j. waiting (replicate (same j) 1) (S .places j)) ∙ free-all (length (codes .lent)));
+          left = omega (arith, (λ j. waiting (replicate (same j) 1) (S .places j)) ∙ free-all (length (codes .from)));
         },
         subst Named (append-nil (listedAs 1 (s .roots)) ∙ sym (S .stack)) (named-listed 1 (s .roots) [] (omega arith) tt),
       )

@@ -10,13 +10,14 @@ use borrow.Author.Tests.{eqb-true, ne-eqb}
 use lib.Dec.{eqb}
 use lib.ListN.{length, getD, set, take, drop, replicate, length-map, length-replicate, length-set, List·getD-map}
 use lib.Seq.{sets, sets-eq, drop-length, length-take-le}
+use Rattle.borrowed.specs.Slices.{Change}
 use Rattle.model.specs.Lists.{pick, foldl}
 use Rattle.model.specs.Scene.{Scene, nodeCount, childrenAt}
 use Rattle.model.specs.Placing.{Place, unplaced, root, below, Entry, listed, isFree, free, Taken, walk, placedOf, trace, start, childEntries, order, placesFrom, places, takenFrom, taken}
 use Rattle.model.proofs.Walking.{Stands, InTurn, in-turn}
 use Rattle.model.proofs.Placed.{taken-is-counted}
 use Rattle.tables.specs.Codes.{codeOf, codesOf}
-use Rattle.placing.specs.Walk.{entriesOf, Change, Wiped, Walked}
+use Rattle.placing.specs.Walk.{entriesOf, Wiped, Walked}
 use Rattle.placing.specs.Bench.{Item, listedAs, stackOf, waiting, Marks, State, takeOne, Ended, drained, Started, Drained}
 use Rattle.placing.proofs.Unplaced.{free-place, free-all}
 use Rattle.placing.proofs.Taking.{placed, dropped}
@@ -137,8 +138,8 @@ module _ (s : Scene) (lent : List ℕ) (nodes : nodeCount s ≡ length lent) whe
   steps = trace (start s) (s .roots) (childrenAt s) (childEntries s)
 
   -- where there are no nodes nothing is taken
-  pub walked-none : length lent ≡ 0 → (room : Change) → Wiped room → (o : List ℕ) (n c : ℕ) → n ≡ 0 → c ≡ 0
-      → Walked s room (record { lent = lent; left = lent }) (record { lent = o; left = o }) n c
+  pub walked-none : length lent ≡ 0 → (room : Change (List ℕ)) → Wiped room → (o : List ℕ) (n c : ℕ) → n ≡ 0 → c ≡ 0
+      → Walked s room (record { from = lent; to = lent }) (record { from = o; to = o }) n c
   unfolding taken order trace placedOf foldl
   walked-none z room w o n c a b =
       let e : nodeCount s ≡ 0 = nodes ∙ z in
@@ -155,15 +156,15 @@ module _ (s : Scene) (lent : List ℕ) (nodes : nodeCount s ≡ length lent) whe
       no-entry [] h = refl
       no-entry (x ∷ l) h = absurd (omega arith)
 
-  module _ (some : length lent ≡ 0 → ⊥) (cleared : List ℕ) (room : Change) (top : ℕ)
-      (S : Started s (record { lent = lent; left = cleared }) room top) (same : length (room .left) ≡ length (room .lent))
+  module _ (some : length lent ≡ 0 → ⊥) (cleared : List ℕ) (room : Change (List ℕ)) (top : ℕ)
+      (S : Started s (record { from = lent; to = cleared }) room top) (same : length (room .to) ≡ length (room .from))
       (o wiped leftPlaces leftOrder : List ℕ) (n c : ℕ) (long : length lent ≤ length o)
-      (D : Drained s (record { lent = room .left; left = wiped }) top (record { places = cleared; order = o; placed = 0 })
+      (D : Drained s (record { from = room .to; to = wiped }) top (record { places = cleared; order = o; placed = 0 })
       (record { marks = record { places = leftPlaces; order = leftOrder; placed = c }; taken = n })) where
     tables : codesOf (start s) ≡ cleared
     tables = sym (codes-start (nodeCount s)) ∙ ap (λ (k : ℕ). replicate k 0) nodes ∙ sym (S .places)
 
-    stack : map itemOf (listed root (s .roots)) ≡ stackOf (room .left) top
+    stack : map itemOf (listed root (s .roots)) ≡ stackOf (room .to) top
     stack = ap (map itemOf) (sym (append-nil (listed root (s .roots)))) ∙ sym (items-listed root (s .roots) []) ∙ append-nil (listedAs 1 (s .roots)) ∙ sym (S .stack)
 
     ended : told (childrenAt s) steps (start s) o 0 0 ≡ record { marks = record { places = leftPlaces; order = leftOrder; placed = c }; taken = n }
@@ -174,8 +175,8 @@ module _ (s : Scene) (lent : List ℕ) (nodes : nodeCount s ≡ length lent) whe
         ∙ D .ended
 
     pub walked :
-        Walked s (record { lent = room .lent; left = wiped }) (record { lent = lent; left = leftPlaces })
-        (record { lent = o; left = leftOrder }) n c
+        Walked s (record { from = room .from; to = wiped }) (record { from = lent; to = leftPlaces })
+        (record { from = o; to = leftOrder }) n c
     unfolding order
     walked =
         let count : c ≡ length (order s) = omega (arith, ap (λ (x : Ended). x .marks .placed) ended) in
@@ -192,8 +193,9 @@ module _ (s : Scene) (lent : List ℕ) (nodes : nodeCount s ≡ length lent) whe
 -- ---- the first places of a longer slice
 
 pub of-part : (s : Scene) (lent : List ℕ) (n : ℕ) → nodeCount s ≡ n → n ≤ length lent
-    → (left : List ℕ) (room ids : Change) (k c : ℕ) → Walked s room (record { lent = take n lent; left = left }) ids k c
-    → Walked s room (record { lent = lent; left = left ++ drop n lent }) ids k c
+    → (left : List ℕ) (room ids : Change (List ℕ)) (k c : ℕ)
+    → Walked s room (record { from = take n lent; to = left }) ids k c
+    → Walked s room (record { from = lent; to = left ++ drop n lent }) ids k c
 of-part s lent n e h left room ids k c w = record {
   walk = w .walk;
   places = (λ j. (w .places ∙ (λ i. codesOf (places s) ++ none-past (take n lent) (nodeCount s) (e ∙ sym (length-take-le n lent h)) i) ∙ append-nil (codesOf (places s))) j ++ drop (sym e j) lent);

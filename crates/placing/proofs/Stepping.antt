@@ -58,7 +58,7 @@ module _ (words : List ℕ) (graph : Graph) (walk places order : List ℕ) (top 
 
   -- the node is placed
   pub stepped : (list left : List ℕ) (top′ : ℕ) → list ≡ children
-      → Pushed list (i + 3) (record { lent = walk; left = left }) (top - 1) top′
+      → Pushed list (i + 3) (record { from = walk; to = left }) (top - 1) top′
       → Stepped scene walk top m (record { stack = stackOf left top′; marks = marked (itemAt walk (top - 1)) m })
   stepped list left top′ l q =
       is-placed (childrenAt scene) (itemAt walk (top - 1)) (stackOf walk (top - 1)) m free

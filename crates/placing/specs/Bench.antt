@@ -5,10 +5,14 @@ use Prim.Native.Nat.{ℕ, zero, suc, _+_, _-_, _*_, _≤_, _<_}
 use lib.Dec.{eqb}
 use lib.ListN.{length, getD, set, replicate}
 use lib.Seq.{paste}
+use denote.Ref.{now}
+use Rattle.borrowed.specs.Slices.{Words, Change, change}
 use Rattle.model.specs.Limits.{nodeLimit}
 use Rattle.model.specs.Lists.{pick}
 use Rattle.model.specs.Scene.{Scene, Node, nodeCount, childrenAt}
-use Rattle.placing.specs.Walk.{Change, Wiped}
+use Rattle.placing.specs.declared.Run.{Run}
+use Rattle.placing.specs.declared.Heights.{Heights}
+use Rattle.placing.specs.Walk.{Wiped}
 
 -- an entry to take: an id, and the code of the place that it is listed for
 pub record Item : Type 0 where
@@ -57,9 +61,14 @@ pub record State : Type 0 where
   pub marks : Marks
 
 abbrev pub marked : Item → Marks → Marks
-marked e m = record { places = set (m .places) (e .id) (e .code); order = set (m .order) (m .placed) (e .id); placed = m .placed + 1 }
+marked e m = record {
+  places = set (m .places) (e .id) (e .code);
+  order = set (m .order) (m .placed) (e .id);
+  placed = m .placed + 1;
+}
 
--- An entry is taken: an unplaced node is placed, and its children come next; anything else is dropped. An id out of range reads as placed.
+-- An entry is taken: an unplaced node is placed, and its children come next; anything else is dropped. An id out of
+-- range reads as placed.
 unfoldable pub takeOne : (ℕ → List ℕ) → Item → List Item → Marks → State
 takeOne children e rest m =
     pick (eqb (getD (m .places) (e .id) 1) 0)
@@ -91,23 +100,42 @@ pub record Ready (s : Scene) (walk places order : List ℕ) (top placed : ℕ) :
   pub left : placed + waiting (replicate (length places) 1) places ≤ length order
 
 -- what a push leaves: the entries of the list from the top on, and the rest of the room as it was
-pub record Pushed (ids : List ℕ) (code : ℕ) (room : Change) (top top′ : ℕ) : Type 0 where
+pub record Pushed (ids : List ℕ) (code : ℕ) (room : Change (List ℕ)) (top top′ : ℕ) : Type 0 where
   pub higher : top′ ≡ top + length ids
-  pub walk : room .left ≡ paste (room .lent) (2 * top) (wordsFor code ids) (2 * length ids)
-  pub stack : stackOf (room .left) top′ ≡ listedAs code ids ++ stackOf (room .lent) top
+  pub walk : room .to ≡ paste (room .from) (2 * top) (wordsFor code ids) (2 * length ids)
+  pub stack : stackOf (room .to) top′ ≡ listedAs code ids ++ stackOf (room .from) top
 
 -- what the start leaves: no node is placed, and the roots are on the stack
-pub record Started (s : Scene) (codes room : Change) (top : ℕ) : Type 0 where
+pub record Started (s : Scene) (codes room : Change (List ℕ)) (top : ℕ) : Type 0 where
   pub places : Wiped codes
   pub higher : top ≡ length (s .roots)
-  pub walk : room .left ≡ paste (room .lent) 0 (wordsFor 1 (s .roots)) (2 * length (s .roots))
-  pub stack : stackOf (room .left) top ≡ listedAs 1 (s .roots)
+  pub walk : room .to ≡ paste (room .from) 0 (wordsFor 1 (s .roots)) (2 * length (s .roots))
+  pub stack : stackOf (room .to) top ≡ listedAs 1 (s .roots)
 
 -- what a step leaves
 abbrev pub Stepped : Scene → List ℕ → ℕ → Marks → State → Type 0
 Stepped s walk top m after = takeOne (childrenAt s) (itemAt walk (top - 1)) (stackOf walk (top - 1)) m ≡ after
 
+-- what is written in two slices when a call begins, and when it ends
+abbrev pub marksBefore : Words → Words → ℕ → Marks
+marksBefore places order placed = record { places = now (places .entry); order = now (order .entry); placed = placed }
+
+abbrev pub marksAfter : Words → Words → ℕ → Marks
+marksAfter places order placed = record { places = now (places .exit); order = now (order .exit); placed = placed }
+
+-- a step in the slices that it borrows
+abbrev pub StepsIn : Scene → Words → Words → Words → Heights → Heights → Type 0
+StepsIn s walk places order h after =
+    Stepped s (now (walk .entry)) (h .top) (marksBefore places order (h .placed))
+    (record { stack = stackOf (now (walk .exit)) (after .top); marks = marksAfter places order (after .placed) })
+
 -- what is left where the stack is empty: the walk room wiped, and what is written
-pub record Drained (s : Scene) (room : Change) (top : ℕ) (m : Marks) (after : Ended) : Type 0 where
+pub record Drained (s : Scene) (room : Change (List ℕ)) (top : ℕ) (m : Marks) (after : Ended) : Type 0 where
   pub walk : Wiped room
-  pub ended : drained (pending s top (m .places)) (childrenAt s) (stackOf (room .lent) top) m 0 ≡ after
+  pub ended : drained (pending s top (m .places)) (childrenAt s) (stackOf (room .from) top) m 0 ≡ after
+
+-- in the slices that are borrowed, where no node is placed before
+abbrev pub DrainsIn : Scene → Words → Words → Words → ℕ → Run → Type 0
+DrainsIn s walk places order top run =
+    Drained s (change walk) top (marksBefore places order 0)
+    (record { marks = marksAfter places order (run .placed); taken = run .taken })

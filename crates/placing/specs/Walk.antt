@@ -1,12 +1,11 @@
--- Which node is placed under which, and in what order, for the listing that the tables of nodes and roots say: scope, "Placed pieces"
--- (`posed_node_transforms` of pose.rs, without its matrices). Definitions only.
+-- Which node is placed under which, and in what order, for the listing that the tables of nodes and roots say: scope,
+-- "Placed pieces" (`posed_node_transforms` of pose.rs, without its matrices). Definitions only.
 use mathlib.Core.Path.{_≡_}
 use mathlib.Core.List.{List, [], _++_, map}
 use mathlib.Core.Option.{none}
 use Prim.Native.Nat.{ℕ, _+_}
 use lib.ListN.{length, drop, replicate}
-use denote.Ref.{RefT, now}
-use denote.Triple.Both.{Both}
+use Rattle.borrowed.specs.Slices.{Change}
 use Rattle.model.specs.Lists.{tabulate}
 use Rattle.model.specs.Scene.{Scene, Node, nodeCount}
 use Rattle.model.specs.Matrix.{identity}
@@ -38,23 +37,16 @@ listingIn words graph = record {
 abbrev pub entriesOf : Scene → ℕ
 entriesOf s = length (s .roots) + placing.childEntries s
 
--- a slice of words that a call may change: as it is lent, and as it is left
-pub record Change : Type 0 where
-  pub lent : List ℕ
-  pub left : List ℕ
-
-abbrev pub change : Both (RefT (List ℕ)) (RefT (List ℕ)) → Change
-change s = record { lent = now (s .entry); left = now (s .exit) }
-
-abbrev pub Wiped : Change → Type 0
-Wiped c = c .left ≡ replicate (length (c .lent)) 0
+-- zeros alone are left
+abbrev pub Wiped : Change (List ℕ) → Type 0
+Wiped c = c .to ≡ replicate (length (c .from)) 0
 
 -- What a run leaves: the walk room wiped, the code of each node's place, the placed nodes in order, how many these are,
 -- and how many entries were taken. What lies past the nodes, and past the placed ones, is as it was lent.
-pub record Walked (s : Scene) (room codes ids : Change) (taken placed : ℕ) : Type 0 where
+pub record Walked (s : Scene) (room codes ids : Change (List ℕ)) (taken placed : ℕ) : Type 0 where
   pub walk : Wiped room
-  pub places : codes .left ≡ codesOf (placing.places s) ++ drop (nodeCount s) (codes .lent)
+  pub places : codes .to ≡ codesOf (placing.places s) ++ drop (nodeCount s) (codes .from)
   pub order :
-      ids .left ≡ map (λ (e : placing.Entry). e .node) (placing.order s) ++ drop (length (placing.order s)) (ids .lent)
+      ids .to ≡ map (λ (e : placing.Entry). e .node) (placing.order s) ++ drop (length (placing.order s)) (ids .from)
   pub counted : placed ≡ length (placing.order s)
   pub entries : taken ≡ placing.taken s

@@ -1,14 +1,16 @@
-// The placing of the nodes without their matrices: which node is placed under which, in what order, and how many entries
-// are taken. The room `walk` holds a stack of entries, two words each: an id, and the code of the place it is listed for.
+// The placing of the nodes without their matrices: which node is placed under which, in what order, and how many
+// entries are taken. The room `walk` holds a stack of entries, two words each: an id, and the code of the place it is
+// listed for.
 use refusals::NODE_LIMIT;
 use tables::Graph;
 ghost use mathlib.Core.Path.{_≡_};
 ghost use Prim.Native.Nat.{_+_, _*_, _≤_, _<_};
 ghost use lib.ListN.{length};
+ghost use Rattle.borrowed.specs.Slices.{change};
 ghost use Rattle.model.specs.Limits.{nodeLimit};
 ghost use Rattle.tables.specs.Decoded.{childrenIn};
-ghost use Rattle.placing.specs.Walk.{rootsIn, listingIn, entriesOf, change, Wiped, Walked};
-ghost use Rattle.placing.specs.Bench.{Named, stackOf, Ready, Pushed, Started, Stepped, Drained};
+ghost use Rattle.placing.specs.Walk.{rootsIn, listingIn, entriesOf, Wiped, Walked};
+ghost use Rattle.placing.specs.Bench.{Named, stackOf, Ready, Pushed, Started, StepsIn, DrainsIn};
 
 // How many entries were taken, and how many nodes were placed.
 pub struct Run {
@@ -58,12 +60,7 @@ fn step(
 ) -> Heights
     requires { ⌜ Ready (listingIn (now words) graph) (now walk) (now places) (now order) (h .top) (h .placed) ⌝ }
     requires { ⌜ 0 < h .top ⌝ }
-    ensures { λ r. ⌜ Stepped (listingIn (now (words .entry)) graph) (now (walk .entry)) (h .top)
-        (record { places = now (places .entry); order = now (order .entry); placed = h .placed })
-        (record {
-          stack = stackOf (now (walk .exit)) (r .top);
-          marks = record { places = now (places .exit); order = now (order .exit); placed = r .placed };
-        }) ⌝ }
+    ensures { λ r. ⌜ StepsIn (listingIn (now (words .entry)) graph) walk places order h r ⌝ }
 {
     let t = h.top - 1;
     let n = h.placed;
@@ -100,12 +97,7 @@ fn drain(
 ) -> Run
     requires { ⌜ Ready (listingIn (now words) graph) (now walk) (now places) (now order) top 0 ⌝ }
     requires { ⌜ Named (stackOf (now walk) top) ⌝ }
-    ensures { λ r. ⌜ Drained (listingIn (now (words .entry)) graph) (change walk) top
-        (record { places = now (places .entry); order = now (order .entry); placed = 0 })
-        (record {
-          marks = record { places = now (places .exit); order = now (order .exit); placed = r .placed };
-          taken = r .taken;
-        }) ⌝ }
+    ensures { λ r. ⌜ DrainsIn (listingIn (now (words .entry)) graph) walk places order top r ⌝ }
 {
     let mut h = Heights { top, placed: 0 };
     let mut taken: usize = 0;

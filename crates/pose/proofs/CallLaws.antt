@@ -75,7 +75,8 @@ module _ (l : Lent) where
 
   -- ---- what it leaves
   module _ (time : Float) (marks : List ℕ) (slots : List Float) (number : ℕ) (e : number ≡ poseNumber (tablesNumber l) (sceneOf l) time (room marks slots)) where
-    pub refused : (number ≡ 0 → ⊥) → Posed l time marks slots marks slots number
+    pub refused : (number ≡ 0 → ⊥)
+        → Posed l time (record { from = marks; to = marks }) (record { from = slots; to = slots }) number
     refused h = record { told = e; words = as-lent number h _ marks; floats = as-lent number h _ slots }
       where
         as-lent : {A : Type 0} (n : ℕ) → (n ≡ 0 → ⊥) → (new lent : A) → lent ≡ whenAccepted n new lent
@@ -91,7 +92,7 @@ module _ (l : Lent) where
       pub posed : (m : List ℕ) (s : List Float)
           → m ≡ encodedWords time (l .header .graph .nodes .count) (tabulate (l .header .channels .count) (λ k. channelIn (l .floats) (channelRow (l .words) (l .header .channels) k))) marks
           → s ≡ encodedFloats time (l .header .graph .nodes .count) (tabulate (l .header .channels .count) (λ k. channelIn (l .floats) (channelRow (l .words) (l .header .channels) k))) slots
-          → Posed l time marks slots m s 0
+          → Posed l time (record { from = marks; to = m }) (record { from = slots; to = s }) 0
       unfolding sceneOf
       posed m s p q = record {
         told = sym ok ∙ e;

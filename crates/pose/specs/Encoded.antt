@@ -9,7 +9,7 @@ use lib.Ieee.{Float}
 use lib.ListN.{getD, getElem?, drop}
 use lib.Seq.{paste}
 use denote.Ref.{now}
-use Rattle.borrowed.specs.Slices.{Words, Floats}
+use Rattle.borrowed.specs.Slices.{Words, Floats, Change}
 use Rattle.model.specs.Lists.{pick, isSome, andThen}
 use Rattle.model.specs.Scene.{Track, nodeCount}
 use Rattle.model.specs.Sampling.{sample}
@@ -31,7 +31,8 @@ givesWeights time t = isSome (drive time atRest t .weights)
 
 unfoldable pub standingFrom : Float → ℕ → ℕ → ℕ → List Track → ℕ
 standingFrom time i k w [] = w
-standingFrom time i k w (t ∷ ts) = standingFrom time i (suc k) (pick (eqb (t .target) i && givesWeights time t) (suc k) w) ts
+standingFrom time i k w (t ∷ ts) =
+    standingFrom time i (suc k) (pick (eqb (t .target) i && givesWeights time t) (suc k) w) ts
 
 -- 1 + the index of the last channel that is aimed at node i and gives it weights, or 0
 abbrev pub standing : Float → ℕ → List Track → ℕ
@@ -64,6 +65,11 @@ clearedWords n lent = rowsOf n (λ i. wordsOf atRest 0) ++ drop (n * 4) lent
 abbrev pub clearedFloats : ℕ → List Float → List Float
 clearedFloats n lent = rowsOf n (λ i. floatsOf atRest) ++ drop (n * 10) lent
 
+abbrev pub Cleared : ℕ → Words → Floats → Type 0
+Cleared n marks slots =
+    (now (marks .exit) ≡ clearedWords n (now (marks .entry)))
+    × (now (slots .exit) ≡ clearedFloats n (now (slots .entry)))
+
 -- ---- one channel, number k
 
 abbrev pub driven : Float → Track → List ℕ → List Float → Pose
@@ -73,9 +79,19 @@ abbrev pub drivenWord : Float → Track → ℕ → List ℕ → ℕ
 drivenWord time t k marks = pick (givesWeights time t) (k + 1) (getD marks (t .target * 4 + 3) 0)
 
 -- the slices after it
-pub record Driven (time : Float) (n k : ℕ) (t : Track) (marks : List ℕ) (slots : List Float) (marks′ : List ℕ) (slots′ : List Float) : Type 0 where
-  pub words : marks′ ≡ pick (ltb (t .target) n) (paste marks (t .target * 4) (wordsOf (driven time t marks slots) (drivenWord time t k marks)) 4) marks
-  pub floats : slots′ ≡ pick (ltb (t .target) n) (paste slots (t .target * 10) (floatsOf (driven time t marks slots)) 10) slots
+pub record Driven (time : Float) (n k : ℕ) (t : Track) (marks : List ℕ) (slots : List Float) (marks′ : List ℕ)
+    (slots′ : List Float) : Type 0 where
+  pub words :
+      marks′
+      ≡ pick (ltb (t .target) n)
+      (paste marks (t .target * 4) (wordsOf (driven time t marks slots) (drivenWord time t k marks)) 4) marks
+  pub floats :
+      slots′
+      ≡ pick (ltb (t .target) n) (paste slots (t .target * 10) (floatsOf (driven time t marks slots)) 10) slots
+
+abbrev pub DrivenIn : Float → ℕ → ℕ → Track → Words → Floats → Type 0
+DrivenIn time n k t marks slots =
+    Driven time n k t (now (marks .entry)) (now (slots .entry)) (now (marks .exit)) (now (slots .exit))
 
 -- ---- the call: its number, and the slices that it leaves, as lent where it is refused
 
@@ -86,7 +102,12 @@ whenAccepted (suc n) new lent = lent
 abbrev pub poseNumberFor : Lent → Float → ℕ → ℕ
 poseNumberFor l time slots = poseNumber (tablesNumber l) (sceneOf l) time slots
 
-pub record Posed (l : Lent) (time : Float) (marks : List ℕ) (slots : List Float) (marks′ : List ℕ) (slots′ : List Float) (number : ℕ) : Type 0 where
-  pub told : number ≡ poseNumberFor l time (room marks slots)
-  pub words : marks′ ≡ whenAccepted number (encodedWords time (nodeCount (sceneOf l)) (sceneOf l .tracks) marks) marks
-  pub floats : slots′ ≡ whenAccepted number (encodedFloats time (nodeCount (sceneOf l)) (sceneOf l .tracks) slots) slots
+pub record Posed (l : Lent) (time : Float) (marks : Change (List ℕ)) (slots : Change (List Float)) (number : ℕ)
+    : Type 0 where
+  pub told : number ≡ poseNumberFor l time (room (marks .from) (slots .from))
+  pub words :
+      marks .to
+      ≡ whenAccepted number (encodedWords time (nodeCount (sceneOf l)) (sceneOf l .tracks) (marks .from)) (marks .from)
+  pub floats :
+      slots .to
+      ≡ whenAccepted number (encodedFloats time (nodeCount (sceneOf l)) (sceneOf l .tracks) (slots .from)) (slots .from)

@@ -19,7 +19,9 @@ outOfLine n t = ltb (t .target) n && even t && not (inLine (t .keys))
 
 -- no track leaves the floats or passes a limit
 abbrev pub NoneDrawn : List ℕ → List Float → Part → Type 0
-NoneDrawn words floats channels = (k : ℕ) → k < channels .count → tableNumber floats (trackFor (channelRow words channels k)) ≡ 0
+NoneDrawn words floats channels =
+    (k : ℕ) → k < channels .count → tableNumber floats (trackFor (channelRow words channels k)) ≡ 0
 
 abbrev pub AllInLine : List ℕ → List Float → Part → ℕ → Type 0
-AllInLine words floats channels n = (k : ℕ) → k < channels .count → outOfLine n (channelIn floats (channelRow words channels k)) ≡ false
+AllInLine words floats channels n =
+    (k : ℕ) → k < channels .count → outOfLine n (channelIn floats (channelRow words channels k)) ≡ false

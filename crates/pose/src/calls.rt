@@ -10,6 +10,7 @@ ghost use mathlib.Core.Path.{_≡_};
 ghost use mathlib.Core.Bool.{false};
 ghost use Prim.Native.Nat.{_/_, _≤_, min};
 ghost use lib.Ieee.{isNan};
+ghost use Rattle.borrowed.specs.Slices.{change};
 ghost use Rattle.model.specs.Limits.{channelLimit};
 ghost use Rattle.checks.specs.Drawn.{sceneLent};
 ghost use Rattle.pose_slots.specs.Slots.{room};
@@ -74,9 +75,9 @@ pub fn pose_all(
     drive_all(words, floats, channels, n, time, marks, slots);
 }
 
-// The pose of every node at a time, in lent slots: four words and ten floats a node. The words are marks for translation,
-// rotation and scale, and 1 + the channel that gives the morph weights, or 0; floats that are not posed are 0. Refused,
-// both slices stay as lent.
+// The pose of every node at a time, in lent slots: four words and ten floats a node. The words are marks for
+// translation, rotation and scale, and 1 + the channel that gives the morph weights, or 0; floats that are not posed
+// are 0. Refused, both slices stay as lent.
 pub fn sample_pose(
     words: &[u32],
     floats: &[f32],
@@ -87,8 +88,8 @@ pub fn sample_pose(
     marks: &mut [u32],
     slots: &mut [f32],
 ) -> u32
-    ensures { λ r. ⌜ Posed (sceneLent words floats «node_weights» «mesh_weights» h) time (now (marks .entry))
-        (now (slots .entry)) (now (marks .exit)) (now (slots .exit)) r ⌝ }
+    ensures { λ r. ⌜ Posed (sceneLent words floats «node_weights» «mesh_weights» h) time (change marks)
+        (change slots) r ⌝ }
 {
     let space = slots_in(marks.len(), slots.len());
     let number = pose_number(words, floats, node_weights, mesh_weights, h, time, space);

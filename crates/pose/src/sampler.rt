@@ -20,7 +20,8 @@ ghost use Rattle.pose_slots.specs.Slots.{poseOf, room};
 ghost use Rattle.pose_slots.specs.Channels.{channelIn, channelsIn};
 ghost use Rattle.pose_slots.specs.Gifts.{bare, bringsWeights};
 ghost use Rattle.pose.specs.Lines.{outOfLine, NoneDrawn, AllInLine};
-ghost use Rattle.pose.specs.Encoded.{clearedWords, clearedFloats, Encoded, driven, drivenWord, Driven};
+ghost use Rattle.pose.specs.Encoded.{clearedWords, clearedFloats, Cleared, Encoded};
+ghost use Rattle.pose.specs.Encoded.{driven, drivenWord, DrivenIn};
 
 // What a slot holds.
 struct Slot {
@@ -80,8 +81,7 @@ fn drive(
     requires { ⌜ (tableNumber (now floats) (trackFor row) ≡ 0) × (isNan time ≡ false)
         × (outOfLine n (channelIn (now floats) row) ≡ false) × (n ≤ room (now marks) (now slots))
         × (k < channelLimit) ⌝ }
-    ensures { λ _. ⌜ Driven time n k (channelIn (now (floats .entry)) row) (now (marks .entry)) (now (slots .entry))
-        (now (marks .exit)) (now (slots .exit)) ⌝ }
+    ensures { λ _. ⌜ DrivenIn time n k (channelIn (now (floats .entry)) row) marks slots ⌝ }
 {
     let i = row.target as usize;
     if i < n {
@@ -125,8 +125,7 @@ pub(crate) fn drive_all(
 // Slots for n nodes in which nothing is posed.
 pub(crate) fn clear(marks: &mut [u32], slots: &mut [f32], n: usize)
     requires { ⌜ n ≤ room (now marks) (now slots) ⌝ }
-    ensures { λ _. ⌜ (now (marks .exit) ≡ clearedWords n (now (marks .entry)))
-        × (now (slots .exit) ≡ clearedFloats n (now (slots .entry))) ⌝ }
+    ensures { λ _. ⌜ Cleared n marks slots ⌝ }
 {
     let mut i: usize = 0;
     while i < n {

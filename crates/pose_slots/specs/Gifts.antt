@@ -16,9 +16,24 @@ abbrev pub bare : Pose → Pose
 bare p = record { translation = p .translation; rotation = p .rotation; scale = p .scale; weights = none }
 
 abbrev pub received : Gift → Pose → Pose
-received (gift.Translation v) p = record { translation = some (vec3 v); rotation = p .rotation; scale = p .scale; weights = p .weights }
-received (gift.Rotation q) p = record { translation = p .translation; rotation = some (quat q); scale = p .scale; weights = p .weights }
-received (gift.Scale v) p = record { translation = p .translation; rotation = p .rotation; scale = some (vec3 v); weights = p .weights }
+received (gift.Translation v) p = record {
+  translation = some (vec3 v);
+  rotation = p .rotation;
+  scale = p .scale;
+  weights = p .weights;
+}
+received (gift.Rotation q) p = record {
+  translation = p .translation;
+  rotation = some (quat q);
+  scale = p .scale;
+  weights = p .weights;
+}
+received (gift.Scale v) p = record {
+  translation = p .translation;
+  rotation = p .rotation;
+  scale = some (vec3 v);
+  weights = p .weights;
+}
 received gift.Weights p = p
 received gift.Nothing p = p
 

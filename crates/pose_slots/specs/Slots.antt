@@ -1,13 +1,17 @@
--- The pose of a node as the code holds it, and in lent slots: four words and ten floats a node. The weights are not held: the fourth word names
--- the channel that gives them. Definitions only.
+-- The pose of a node as the code holds it, and in lent slots: four words and ten floats a node. The weights are not
+-- held: the fourth word names the channel that gives them. Definitions only.
+use mathlib.Core.Path.{_≡_}
 use mathlib.Core.Bool.{Bool, true, false}
 use mathlib.Core.List.{List, [], _∷_, _++_}
 use mathlib.Core.Option.{Option, none, some}
-use Prim.Native.Nat.{ℕ, _+_, _/_, min}
+use Prim.Native.Nat.{ℕ, _+_, _*_, _/_, min}
 use lib.Dec.{ltb}
 use lib.Ieee.{Float}
 use lib.ListN.{length, getD, take, replicate}
+use lib.Seq.{paste}
+use denote.Ref.{now}
 use Rattle.float.specs.F32.{zero32}
+use Rattle.borrowed.specs.Slices.{Words, Floats}
 use Rattle.model.specs.Lists.{pick, part, row, isSome, orElse}
 use Rattle.model.specs.Vector.{Vector, at}
 use Rattle.model.specs.Pose.{Pose, atRest}
@@ -81,4 +85,11 @@ wordsOf p w = markOf (isSome (p .translation)) ∷ markOf (isSome (p .rotation))
 -- zeros where nothing is posed
 abbrev pub floatsOf : Pose → List Float
 floatsOf p =
-    orElse (p .translation) (replicate 3 zero32) ++ (orElse (p .rotation) (replicate 4 zero32) ++ orElse (p .scale) (replicate 3 zero32))
+    orElse (p .translation) (replicate 3 zero32)
+    ++ (orElse (p .rotation) (replicate 4 zero32) ++ orElse (p .scale) (replicate 3 zero32))
+
+-- slot i of the slices that are borrowed, with a pose and its fourth word in place
+abbrev pub Stored : ℕ → Pose → ℕ → Words → Floats → Type 0
+Stored i p w marks slots =
+    (now (marks .exit) ≡ paste (now (marks .entry)) (i * 4) (wordsOf p w) 4)
+    × (now (slots .exit) ≡ paste (now (slots .entry)) (i * 10) (floatsOf p) 10)

@@ -38,8 +38,8 @@ fn parts_of(base: Transform) -> Trs
     }
 }
 
-// A node's local transform: its base transform with what is posed in place. Where neither translation, rotation nor scale
-// is posed, the base transform as it is.
+// A node's local transform: its base transform with what is posed in place. Where neither translation, rotation nor
+// scale is posed, the base transform as it is.
 pub fn local_transform(p: NodePose, base: Transform) -> Transform
     ensures { λ r. ⌜ transformOf r ≡ localTransform (poseOf p) (transformOf base) ⌝ }
 {

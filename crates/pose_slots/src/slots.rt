@@ -8,7 +8,7 @@ ghost use Prim.Native.Nat.{_+_, _*_, _<_, _≤_};
 ghost use lib.ListN.{length};
 ghost use lib.Seq.{paste};
 ghost use Rattle.pose_slots.specs.Slots.{poseOf, restingPose, room, slotFrom, slotPose};
-ghost use Rattle.pose_slots.specs.Slots.{markOf, wordsOf, floatsOf};
+ghost use Rattle.pose_slots.specs.Slots.{markOf, wordsOf, floatsOf, Stored};
 
 // What the words and floats of one slot hold.
 fn pose_from(four: &[u32], ten: &[f32]) -> NodePose
@@ -132,8 +132,7 @@ fn put_floats(s: &mut [f32], at: usize, v: [f32; 10])
 // Puts a pose, and the word for its weights, into slot i.
 pub fn store_pose(marks: &mut [u32], slots: &mut [f32], i: usize, p: NodePose, w: u32)
     requires { ⌜ i < room (now marks) (now slots) ⌝ }
-    ensures { λ _. ⌜ (now (marks .exit) ≡ paste (now (marks .entry)) (i * 4) (wordsOf (poseOf p) w) 4)
-        × (now (slots .exit) ≡ paste (now (slots .entry)) (i * 10) (floatsOf (poseOf p)) 10) ⌝ }
+    ensures { λ _. ⌜ Stored i (poseOf p) w marks slots ⌝ }
 {
     put_words(marks, i * 4, words_of(p, w));
     put_floats(slots, i * 10, floats_of(p));

@@ -7,6 +7,7 @@ use native.Mathlib.Omega.{arith}
 use lib.Ieee.{Float}
 use lib.ListN.{length, take, drop}
 use lib.Seq.{take-at, take-append-seam, length-take-le}
+use Rattle.borrowed.specs.Slices.{Change}
 use Rattle.model.specs.Bake.{Output}
 use Rattle.tables.specs.Decoded.{Lent}
 use Rattle.bake.specs.Baked.{outcome, roomAfter}
@@ -30,14 +31,14 @@ first-copied entries lent left n h =
 pub starts : (xs rest : List Float) {left : List Float} → xs ≡ left → Starts left (xs ++ rest)
 starts xs rest {left} e = ap (λ l. take (length left) (l ++ rest)) e ∙ take-append-seam left rest
 
-pub rerun-in : {l : Lent} {asked : Asked} {walk other : List ℕ} {lent left : Output} {a : Answer} → walk ≡ other
-    → Rerun l asked walk lent left a → Rerun l asked other lent left a
-rerun-in {l} {asked} {lent = lent} {left = left} {a = a} e h = subst (λ w. Rerun l asked w lent left a) e h
+pub rerun-in : {l : Lent} {asked : Asked} {walk other : List ℕ} {o : Change Output} {a : Answer} → walk ≡ other
+    → Rerun l asked walk o a → Rerun l asked other o a
+rerun-in {l} {asked} {o = o} {a = a} e h = subst (λ w. Rerun l asked w o a) e h
 
 -- what is found where it stands
 module _ (l : Lent) (fields : List ℕ) (at : ℕ) (lent : Output) where
   pub output-left : {asked : Asked} {walk : ℕ} {a : Answer} {left : Output} → asked ≡ askedAt fields at
-      → walk ≡ walkAt fields at → Rerun l asked (take 64 (listAt fields walk)) lent left a
+      → walk ≡ walkAt fields at → Rerun l asked (take 64 (listAt fields walk)) (record { from = lent; to = left }) a
       → left ≡ outputLeft l fields at lent
   output-left asks walks r =
       r .output
@@ -46,7 +47,7 @@ module _ (l : Lent) (fields : List ℕ) (at : ℕ) (lent : Output) where
   pub compares : {asked : Asked} {walk told place : ℕ} {a expected : Answer} {same : Bool}
       {floats : Agreement} {left : Output}
       → asked ≡ askedAt fields at → walk ≡ walkAt fields at
-      → Rerun l asked (take 64 (listAt fields walk)) lent left a
+      → Rerun l asked (take 64 (listAt fields walk)) (record { from = lent; to = left }) a
       → told ≡ behindList fields walk 64 → expected ≡ answerAt fields told → same ≡ sameAnswer a expected
       → place ≡ aheadOf fields told 5
       → floats ≡ outputsCompared (left .positions) (left .normals) (left .tangents) fields place (asked .most)

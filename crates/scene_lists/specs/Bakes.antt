@@ -8,6 +8,7 @@ use lib.Ieee.{Float}
 use lib.ListN.{length, getD, take, replicate}
 use Rattle.float.specs.F32.{f32, zero32}
 use Rattle.float.specs.F64.{f64, zero64}
+use Rattle.borrowed.specs.Slices.{Change}
 use Rattle.model.specs.Bake as model
 use Rattle.model.specs.Bake.{Output}
 use Rattle.model.specs.Lists.{pick}
@@ -101,9 +102,9 @@ abbrev pub outputOf : List Float → List Float → List Float → Output
 outputOf positions normals tangents = record { positions = positions; normals = normals; tangents = tangents }
 
 -- what a bake in that room answers and leaves
-pub record Rerun (l : Lent) (asked : Asked) (walk : List ℕ) (lent left : Output) (a : Answer) : Type 0 where
-  pub answer : answerOf a ≡ outcome l (asked .node) (asked .time) (roomFor walk lent) .answer
-  pub output : left ≡ roomAfter l (asked .node) (asked .time) (roomFor walk lent) .output
+pub record Rerun (l : Lent) (asked : Asked) (walk : List ℕ) (o : Change Output) (a : Answer) : Type 0 where
+  pub answer : answerOf a ≡ outcome l (asked .node) (asked .time) (roomFor walk (o .from)) .answer
+  pub output : o .to ≡ roomAfter l (asked .node) (asked .time) (roomFor walk (o .from)) .output
 
 -- the bake that is asked for at a place, and the outputs as it leaves them
 abbrev pub outcomeAt : Lent → List ℕ → ℕ → Output → model.Outcome
@@ -112,6 +113,9 @@ outcomeAt l fields at lent = outcome l (askedAt fields at .node) (askedAt fields
 abbrev pub outputLeft : Lent → List ℕ → ℕ → Output → Output
 outputLeft l fields at lent =
     roomAfter l (askedAt fields at .node) (askedAt fields at .time) (roomAt fields at lent) .output
+
+abbrev pub Leaves : Lent → List ℕ → ℕ → Change Output → Type 0
+Leaves l fields at o = o .to ≡ outputLeft l fields at (o .from)
 
 -- the answer of that bake, whether it is the right one, and how the outputs agree with those that are right
 pub record Compares (l : Lent) (fields : List ℕ) (at : ℕ) (lent : Output) (answer : Answer) (told : Bool)

@@ -13,10 +13,11 @@ use lists::list_at;
 use tables::Header;
 ghost use mathlib.Core.Path.{_≡_};
 ghost use lib.ListN.{take};
+ghost use Rattle.bake.specs.Baked.{outputRoom};
 ghost use Rattle.lists.specs.Fields.{listAt};
 ghost use Rattle.checks.specs.Drawn.{sceneLent};
 ghost use Rattle.scene_lists.specs.Bakes.{behindOutputs, leftAt, allowedOf, askedAt, answerAt, sameAnswer};
-ghost use Rattle.scene_lists.specs.Bakes.{outputsCompared, outputOf, outputLeft, Rerun, Compares, Replayed};
+ghost use Rattle.scene_lists.specs.Bakes.{outputsCompared, Leaves, Rerun, Compares, Replayed};
 
 // Behind three lists.
 fn behind_outputs(fields: &[u32], at: usize) -> usize
@@ -107,11 +108,8 @@ fn bake_in<'a>(
     normals: &mut [f32],
     tangents: &mut [f32],
 ) -> Answer
-    ensures { λ r. ⌜ Rerun
-        (sceneLent words floats «node_weights» «mesh_weights» h)
-        asked (now (walk .entry))
-        (outputOf (now (positions .entry)) (now (normals .entry)) (now (tangents .entry)))
-        (outputOf (now (positions .exit)) (now (normals .exit)) (now (tangents .exit))) r ⌝ }
+    ensures { λ r. ⌜ Rerun (sceneLent words floats «node_weights» «mesh_weights» h) asked (now (walk .entry))
+        (outputRoom positions normals tangents) r ⌝ }
 {
     let mut marks = [0u32; 32];
     let mut slots = [0.0f32; 80];
@@ -150,11 +148,8 @@ fn bake_asked<'a>(
     normals: &mut [f32],
     tangents: &mut [f32],
 ) -> Answer
-    ensures { λ r. ⌜ Rerun
-        (sceneLent words floats «node_weights» «mesh_weights» h)
-        asked (take 64 (listAt (now (fields .entry)) at))
-        (outputOf (now (positions .entry)) (now (normals .entry)) (now (tangents .entry)))
-        (outputOf (now (positions .exit)) (now (normals .exit)) (now (tangents .exit))) r ⌝ }
+    ensures { λ r. ⌜ Rerun (sceneLent words floats «node_weights» «mesh_weights» h) asked
+        (take 64 (listAt (now (fields .entry)) at)) (outputRoom positions normals tangents) r ⌝ }
 {
     let mut walk = [0u32; 64];
     let w = lists::read_words(fields, at, &mut walk);
@@ -191,15 +186,10 @@ fn replay_in<'a>(
     normals: &mut [f32],
     tangents: &mut [f32],
 ) -> Compared
-    ensures { λ r. ⌜ Compares
-        (sceneLent words floats «node_weights» «mesh_weights» h)
-        (now (fields .entry)) at
-        (outputOf (now (positions .entry)) (now (normals .entry)) (now (tangents .entry)))
-        (r .answer) (r .told) (r .floats) ⌝ }
-    ensures { λ r. ⌜ outputOf (now (positions .exit)) (now (normals .exit)) (now (tangents .exit)) ≡ outputLeft
-        (sceneLent words floats «node_weights» «mesh_weights» h)
-        (now (fields .entry)) at
-        (outputOf (now (positions .entry)) (now (normals .entry)) (now (tangents .entry))) ⌝ }
+    ensures { λ r. ⌜ Compares (sceneLent words floats «node_weights» «mesh_weights» h) (now (fields .entry)) at
+        (outputRoom positions normals tangents .from) (r .answer) (r .told) (r .floats) ⌝ }
+    ensures { λ r. ⌜ Leaves (sceneLent words floats «node_weights» «mesh_weights» h) (now (fields .entry)) at
+        (outputRoom positions normals tangents) ⌝ }
 {
     let asked = asked_at(fields, at);
     let walk = ahead(fields, at, 3);

@@ -1,4 +1,5 @@
--- The attributes of a primitive at rest, as they lie in the lent floats, and how many floats a mesh puts out. Definitions only.
+-- The attributes of a primitive at rest, as they lie in the lent floats, and how many floats a mesh puts out.
+-- Definitions only.
 use mathlib.Core.Path.{_≡_}
 use mathlib.Core.List.{List, []}
 use mathlib.Core.Option.{Option, none, some}
@@ -9,6 +10,7 @@ use lib.ListN.{length}
 use lib.Seq.{paste}
 use denote.Ref.{now}
 use Rattle.borrowed.specs.Slices.{Floats}
+use Rattle.model.specs.Limits.{primitiveLimit}
 use Rattle.model.specs.Lists.{pick, joined, rowsIn}
 use Rattle.model.specs.Matrix.{Matrix}
 use Rattle.model.specs.Scene as scene
@@ -50,7 +52,8 @@ pub record AtRest (floats : List Float) (r : PrimitiveRow) (p n t : List Float) 
 -- three slices that hold a shape in the place of the attributes
 abbrev pub ShapedAs : Shape → List Float → PrimitiveRow → Floats → Floats → Floats → Type 0
 ShapedAs s floats r positions normals tangents =
-    Reshaped s (spanIn floats (r .positions) 3) (now (positions .exit)) (slotFloats floats (r .normals) 3) (now (normals .exit))
+    Reshaped s (spanIn floats (r .positions) 3) (now (positions .exit))
+    (slotFloats floats (r .normals) 3) (now (normals .exit))
     (slotFloats floats (r .tangents) 4) (now (tangents .exit))
 
 -- the palette, if there is one
@@ -67,10 +70,18 @@ abbrev pub slotCount : Slot → ℕ
 slotCount s = pick (isMarked (s .mark)) (s .part .count) 0
 
 abbrev pub rowLengths : PrimitiveRow → Lengths
-rowLengths r = record { positions = r .positions .count * 3; normals = slotCount (r .normals) * 3; tangents = slotCount (r .tangents) * 4 }
+rowLengths r = record {
+  positions = r .positions .count * 3;
+  normals = slotCount (r .normals) * 3;
+  tangents = slotCount (r .tangents) * 4;
+}
 
 abbrev pub plusLengths : Lengths → Lengths → Lengths
-plusLengths a b = record { positions = a .positions + b .positions; normals = a .normals + b .normals; tangents = a .tangents + b .tangents }
+plusLengths a b = record {
+  positions = a .positions + b .positions;
+  normals = a .normals + b .normals;
+  tangents = a .tangents + b .tangents;
+}
 
 -- at most so many floats of each
 pub record AtMost (n : Lengths) (positions normals tangents : ℕ) : Type 0 where
@@ -93,7 +104,7 @@ lengthsBelow words t m n = record {
 -- ---- a mesh whose primitives are within their limits, and lie in their tables
 
 pub record Counted (words : List ℕ) (t m : Part) : Type 0 where
-  pub count : m .count ≤ 64
+  pub count : m .count ≤ primitiveLimit
   pub last : m .at + m .count ≤ t .count
   pub within : (k : ℕ) → k < m .count → primitiveWithin (rowAt words t m k) ≡ true
 
@@ -108,7 +119,8 @@ pub record Drawable (words : List ℕ) (floats : List Float) (t m : Part) : Type
   pub fits : (k : ℕ) → k < m .count → RowFits floats (rowAt words t m k)
 
 -- the outputs after a mesh is put out at their start
-pub record PutOut (o : Output) (lentPositions leftPositions lentNormals leftNormals lentTangents leftTangents : List Float) : Type 0 where
+pub record PutOut (o : Output)
+    (lentPositions leftPositions lentNormals leftNormals lentTangents leftTangents : List Float) : Type 0 where
   pub positions : leftPositions ≡ written (o .positions) lentPositions
   pub normals : leftNormals ≡ written (o .normals) lentNormals
   pub tangents : leftTangents ≡ written (o .tangents) lentTangents
@@ -119,7 +131,8 @@ PutsOut o positions normals tangents =
     (now (tangents .entry)) (now (tangents .exit))
 
 -- the outputs after a primitive is put out from a given place on
-pub record PutAt (s : Shape) (at n : Lengths) (lentPositions leftPositions lentNormals leftNormals lentTangents leftTangents : List Float) : Type 0 where
+pub record PutAt (s : Shape) (at n : Lengths)
+    (lentPositions leftPositions lentNormals leftNormals lentTangents leftTangents : List Float) : Type 0 where
   pub positions : leftPositions ≡ paste lentPositions (at .positions) (joined (λ v. v) (s .positions)) (n .positions)
   pub normals : leftNormals ≡ paste lentNormals (at .normals) (joined (λ v. v) (s .normals)) (n .normals)
   pub tangents : leftTangents ≡ paste lentTangents (at .tangents) (joined (λ v. v) (s .tangents)) (n .tangents)

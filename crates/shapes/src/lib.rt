@@ -1,4 +1,5 @@
-// The vertices of a mesh's primitives, blended and placed, in lent outputs: the body of `world_mesh_impl` of skinning.rs.
+// The vertices of a mesh's primitives, blended and placed, in lent outputs: the body of `world_mesh_impl` of
+// skinning.rs.
 mod counting;
 mod meshes;
 mod parts;

@@ -15,7 +15,8 @@ ghost use lib.ListN.{length};
 ghost use Rattle.model.specs.Bake.{bakedPrimitive, outputOf};
 ghost use Rattle.tables.specs.Decoded.{primitiveOf};
 ghost use Rattle.checks.specs.Drawn.{lentAs};
-ghost use Rattle.shapes.specs.Rest.{paletteIn, primitivesIn, rowLengths, plusLengths, lengthsBelow, AtMost, RowFits, Drawable, PutsAt, PutsOut};
+ghost use Rattle.shapes.specs.Rest.{paletteIn, primitivesIn, rowLengths, plusLengths, lengthsBelow, AtMost};
+ghost use Rattle.shapes.specs.Rest.{RowFits, Drawable, PutsAt, PutsOut};
 
 // Puts out a primitive of so many floats, from the given places on.
 fn put_primitive(
@@ -61,8 +62,8 @@ fn put_primitive(
     );
 }
 
-// Puts out the primitives of a mesh, a part of their table, one after the other, blended and placed: a stage, for tables
-// that draw no number and outputs that are long enough.
+// Puts out the primitives of a mesh, a part of their table, one after the other, blended and placed: a stage, for
+// tables that draw no number and outputs that are long enough.
 pub fn write_mesh(
     words: &[u32],
     floats: &[f32],

@@ -146,11 +146,12 @@ module _ (l : Lent) (i : ℕ) (codes : List ℕ) (slots lent : List Float) (n : 
   abbrev start : List Float
   start = joined (λ m. m) (orElse palette []) ++ drop (length (orElse palette []) * 16) lent
 
-  pub unchanged : (a .number ≡ 0 → ⊥) → Answered l i codes slots lent lent a
+  pub unchanged : (a .number ≡ 0 → ⊥) → Answered l i codes slots (record { from = lent; to = lent }) a
   unchanged d = record { number = told; floats = J .floats slots; slice = ap (λ (b : Bool). pick b start lent) (sym (ne-eqb (a .number) 0 d)) }
 
   pub changed : a .number ≡ 0 → (row : NodeRow) → row ≡ nodeRow (l .words) (l .header .graph .nodes) i → (left : List Float)
-      → left ≡ laidOut (orElse (skinPalette (worldIn (l .header .graph .nodes .count) codes slots) (sceneOf l) (row .skin .id)) []) lent → Answered l i codes slots lent left a
+      → left ≡ laidOut (orElse (skinPalette (worldIn (l .header .graph .nodes .count) codes slots) (sceneOf l) (row .skin .id)) []) lent
+      → Answered l i codes slots (record { from = lent; to = left }) a
   changed z row r left w =
       let c = accepted l i n (length lent) palette (sym (J .number slots) ∙ z) in
       let same = has-skin l i (worldIn (nodeCount (sceneOf l)) codes slots) row r (c .0) (c .1) ∙ ap (λ (k : ℕ). skinPalette (worldIn k codes slots) (sceneOf l) (row .skin .id)) (node-count l) in

@@ -1,4 +1,5 @@
--- The palette of a skin from lent world slots, how long it is, and where it is written: scope, "Palette, skin root, weights". Definitions only.
+-- The palette of a skin from lent world slots, how long it is, and where it is written: scope, "Palette, skin root,
+-- weights". Definitions only.
 use mathlib.Core.Path.{_≡_}
 use mathlib.Core.Bool.{Bool, _&&_}
 use mathlib.Core.List.{List, [], _++_}
@@ -7,6 +8,7 @@ use Prim.Native.Nat.{ℕ, _*_}
 use lib.Dec.{ltb, leb}
 use lib.Ieee.{Float}
 use lib.ListN.{length, getD, drop}
+use Rattle.borrowed.specs.Slices.{Change}
 use Rattle.model.specs.Lists.{pick, tabulate, rowsIn, joined, isSome, orElse, mapSome}
 use Rattle.model.specs.Refusals.{number, noPalette}
 use Rattle.model.specs.Matrix.{Matrix, identity, mul}
@@ -44,21 +46,29 @@ bindIn binds at = pick (ltb (length binds) 16) identity (matrixIn binds at)
 
 -- world times inverse bind, joint by joint
 unfoldable pub paletteIn : List ℕ → List Float → List Float → List Matrix
-paletteIn ids binds worlds = tabulate (length ids) (λ t. mul (matrixIn worlds (getD ids t 0 * 16)) (bindIn binds (t * 16)))
+paletteIn ids binds worlds =
+    tabulate (length ids) (λ t. mul (matrixIn worlds (getD ids t 0 * 16)) (bindIn binds (t * 16)))
 
 -- matrices at the start of a slice, if it has room for them; past them it is as lent
 unfoldable pub laidOut : List Matrix → List Float → List Float
 laidOut p lent = pick (leb (length p * 16) (length lent)) (joined (λ m. m) p ++ drop (length p * 16) lent) lent
 
 -- whether there is a palette of skin k, and how long it is, whatever the worlds are
-pub record Counted (words : List ℕ) (floats : List Float) (h : Header) (k : ℕ) (codes : List ℕ) (r : Joints) : Type 0 where
+pub record Counted (words : List ℕ) (floats : List Float) (h : Header) (k : ℕ) (codes : List ℕ)
+    (r : Joints) : Type 0 where
   pub count : (nodeWeights meshWeights slots : List Float)
-      → countOf r ≡ mapSome length (skinPalette (worldIn (h .graph .nodes .count) codes slots) (sceneOf (lentAs words floats nodeWeights meshWeights h)) k)
+      → countOf r
+      ≡ mapSome length (skinPalette (worldIn (h .graph .nodes .count) codes slots)
+      (sceneOf (lentAs words floats nodeWeights meshWeights h)) k)
   pub numbered : (nodeWeights meshWeights slots : List Float)
       → numberOf r
-      ≡ pick (isSome (skinPalette (worldIn (h .graph .nodes .count) codes slots) (sceneOf (lentAs words floats nodeWeights meshWeights h)) k)) 0 (number noPalette)
+      ≡ pick (isSome (skinPalette (worldIn (h .graph .nodes .count) codes slots)
+      (sceneOf (lentAs words floats nodeWeights meshWeights h)) k)) 0 (number noPalette)
 
 -- the palette of skin k, or nothing changed
-pub record Laid (words : List ℕ) (floats : List Float) (h : Header) (k : ℕ) (codes : List ℕ) (slots lent left : List Float) : Type 0 where
+pub record Laid (words : List ℕ) (floats : List Float) (h : Header) (k : ℕ) (codes : List ℕ)
+    (slots : List Float) (out : Change (List Float)) : Type 0 where
   pub slice : (nodeWeights meshWeights : List Float)
-      → left ≡ laidOut (orElse (skinPalette (worldIn (h .graph .nodes .count) codes slots) (sceneOf (lentAs words floats nodeWeights meshWeights h)) k) []) lent
+      → out .to
+      ≡ laidOut (orElse (skinPalette (worldIn (h .graph .nodes .count) codes slots)
+      (sceneOf (lentAs words floats nodeWeights meshWeights h)) k) []) (out .from)

@@ -20,4 +20,5 @@ rowOf bound.Nothing = none
 -- whatever else is lent, it is the skeleton of skin k
 pub record BoundTo (words : List ℕ) (h : Header) (k : ℕ) (b : Bound) : Type 0 where
   pub skeleton : (floats nodeWeights meshWeights : List Float)
-      → scene.skeletonOf (sceneOf (lentAs words floats nodeWeights meshWeights h)) k ≡ mapSome (skeletonOf (lentAs words floats nodeWeights meshWeights h)) (rowOf b)
+      → scene.skeletonOf (sceneOf (lentAs words floats nodeWeights meshWeights h)) k
+      ≡ mapSome (skeletonOf (lentAs words floats nodeWeights meshWeights h)) (rowOf b)

@@ -1,4 +1,5 @@
--- What rows say of the weights that a mesh is blended with, whatever else is lent: scope, "Palette, skin root, weights". Definitions only.
+-- What rows say of the weights that a mesh is blended with, whatever else is lent: scope, "Palette, skin root,
+-- weights". Definitions only.
 use mathlib.Core.Path.{_≡_}
 use mathlib.Core.Bool.{Bool}
 use mathlib.Core.List.{List}
@@ -14,10 +15,13 @@ use Rattle.tables.specs.Decoded.{nodeOf, meshOf, sceneOf}
 use Rattle.checks.specs.Drawn.{lentAs}
 
 -- the effective weights of the node and the mesh that two rows say
-pub record Effective (nodeWeights meshWeights : List Float) (node : NodeRow) (mesh : MeshRow) (r : List Float) : Type 0 where
+pub record Effective (nodeWeights meshWeights : List Float) (node : NodeRow) (mesh : MeshRow)
+    (r : List Float) : Type 0 where
   pub weights : (words : List ℕ) (floats : List Float) (h : Header)
-      → r ≡ effectiveWeights (nodeOf (lentAs words floats nodeWeights meshWeights h) node .weights) (meshOf (lentAs words floats nodeWeights meshWeights h) mesh)
+      → r ≡ effectiveWeights (nodeOf (lentAs words floats nodeWeights meshWeights h) node .weights)
+      (meshOf (lentAs words floats nodeWeights meshWeights h) mesh)
 
 -- whether node i has a mesh
 pub record Meshed (words : List ℕ) (h : Header) (i : ℕ) (r : Bool) : Type 0 where
-  pub told : (floats nodeWeights meshWeights : List Float) → r ≡ isSome (meshAt (sceneOf (lentAs words floats nodeWeights meshWeights h)) i)
+  pub told : (floats nodeWeights meshWeights : List Float)
+      → r ≡ isSome (meshAt (sceneOf (lentAs words floats nodeWeights meshWeights h)) i)

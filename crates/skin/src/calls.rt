@@ -9,6 +9,7 @@ use refusals::SHORT_SCRATCH;
 use skin_roots::wide;
 use tables::Header;
 ghost use mathlib.Core.Path.{_≡_};
+ghost use Rattle.borrowed.specs.Slices.{change};
 ghost use Rattle.checks.specs.Drawn.{sceneLent};
 ghost use Rattle.skin.specs.Calls.{NodeCounted, Judged, Answered};
 
@@ -72,8 +73,8 @@ fn judge(
     }
 }
 
-// Writes the palette of a node, from worlds that are given, to the start of `out`. Where a number is answered, nothing is
-// changed.
+// Writes the palette of a node, from worlds that are given, to the start of `out`. Where a number is answered, nothing
+// is changed.
 pub fn joint_matrices_with(
     words: &[u32],
     floats: &[f32],
@@ -86,7 +87,7 @@ pub fn joint_matrices_with(
     out: &mut [f32],
 ) -> Answer
     ensures { λ r. ⌜ Answered (sceneLent words floats «node_weights» «mesh_weights» h) node (now (places .entry))
-        (now (worlds .entry)) (now (out .entry)) (now (out .exit)) r ⌝ }
+        (now (worlds .entry)) (change out) r ⌝ }
 {
     let answer = judge(
         words,

@@ -1,6 +1,6 @@
-// The palette of a skin, and the weights that a node's mesh is blended with: the port of skin.rs and of the scene part of
-// skinning.rs, of which `skin_roots` has the root of a skin. World matrices come in lent slots, a code and sixteen floats a
-// node.
+// The palette of a skin, and the weights that a node's mesh is blended with: the port of skin.rs and of the scene part
+// of skinning.rs, of which `skin_roots` has the root of a skin. World matrices come in lent slots, a code and sixteen
+// floats a node.
 use tables::SkeletonRow;
 
 mod calls;

@@ -9,6 +9,7 @@ ghost use mathlib.Core.List.{List, [], _++_};
 ghost use Prim.Native.Nat.{_*_, _≤_};
 ghost use lib.Ieee.{Float};
 ghost use lib.ListN.{length, drop};
+ghost use Rattle.borrowed.specs.Slices.{change};
 ghost use Rattle.model.specs.Lists.{every, joined, isSome, orElse};
 ghost use Rattle.model.specs.Matrix.{mul};
 ghost use Rattle.model.specs.Skin.{paletteOf};
@@ -57,7 +58,8 @@ fn is_whole(joints: &[u32], binds: &[f32], n: usize, places: &[u32]) -> bool
     all_placed(joints, n, places)
 }
 
-// How many joint matrices the palette of a skin has, with the codes of the nodes' places; it does not hang on the worlds.
+// How many joint matrices the palette of a skin has, with the codes of the nodes' places; it does not hang on the
+// worlds.
 pub fn palette_count(words: &[u32], floats: &[f32], h: Header, skin: u32, places: &[u32]) -> Joints
     ensures { λ r. ⌜ Counted (now (words .entry)) (now (floats .entry)) h skin (now (places .entry)) r ⌝ }
 {
@@ -131,7 +133,7 @@ pub fn write_palette(
     out: &mut [f32],
 )
     ensures { λ _. ⌜ Laid (now (words .entry)) (now (floats .entry)) h skin (now (places .entry))
-        (now (worlds .entry)) (now (out .entry)) (now (out .exit)) ⌝ }
+        (now (worlds .entry)) (change out) ⌝ }
 {
     let Bound::Skeleton(row) = skeleton_of(words, h, skin) else {
         return;

@@ -2,7 +2,8 @@
 use skin::Answer;
 use skin_roots::Root;
 use tables::Header;
-ghost use Rattle.checks.specs.Drawn.{lentAs};
+ghost use Rattle.borrowed.specs.Slices.{change};
+ghost use Rattle.checks.specs.Drawn.{sceneLent};
 ghost use Rattle.skin_roots.specs.Roots.{RootAnswered};
 ghost use Rattle.skin.specs.Calls.{Answered};
 ghost use Rattle.skin_entries.specs.Handed.{Weighed};
@@ -20,9 +21,8 @@ pub extern "C" fn joint_matrices_floats(
     worlds: &[f32],
     out: &mut [f32],
 ) -> Answer
-    ensures { λ r. ⌜ Answered (lentAs (now (words .entry)) (now (floats .entry)) (now («node_weights» .entry))
-        (now («mesh_weights» .entry)) header) node (now (places .entry)) (now (worlds .entry)) (now (out .entry))
-        (now (out .exit)) r ⌝ }
+    ensures { λ r. ⌜ Answered (sceneLent words floats «node_weights» «mesh_weights» header) node (now (places .entry))
+        (now (worlds .entry)) (change out) r ⌝ }
 {
     skin::joint_matrices_with(
         words,
@@ -47,8 +47,7 @@ pub extern "C" fn skin_root(
     header: Header,
     skin: u32,
 ) -> Root
-    ensures { λ r. ⌜ RootAnswered (lentAs (now (words .entry)) (now (floats .entry)) (now («node_weights» .entry))
-        (now («mesh_weights» .entry)) header) skin r ⌝ }
+    ensures { λ r. ⌜ RootAnswered (sceneLent words floats «node_weights» «mesh_weights» header) skin r ⌝ }
 {
     skin_roots::skin_root(words, floats, node_weights, mesh_weights, header, skin)
 }
@@ -65,8 +64,7 @@ pub extern "C" fn effective_weights_floats<'a>(
     node: u32,
     out: &mut [f32],
 ) -> Answer
-    ensures { λ r. ⌜ Weighed (lentAs (now (words .entry)) (now (floats .entry)) (now («node_weights» .entry))
-        (now («mesh_weights» .entry)) header) node (now (out .entry)) (now (out .exit)) r ⌝ }
+    ensures { λ r. ⌜ Weighed (sceneLent words floats «node_weights» «mesh_weights» header) node out r ⌝ }
 {
     let number = skin::weights_number(words, floats, node_weights, mesh_weights, header, node);
     let weights = skin::effective_morph_weights(

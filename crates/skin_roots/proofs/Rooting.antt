@@ -85,7 +85,8 @@ module _ (l : Lent) where
       go zero z = ap (λ (b : Bool). pick b 10 0) (le-ltb 1024 (scene.nodeCount (sceneOf l)) (checked l z .few-nodes))
       go (suc g) z = refl
 
-  pub codes-are : (lent left : List ℕ) (r : ℕ) → Parents l lent left r → r ≡ 0 → take (l .header .graph .nodes .count) left ≡ codesOf (marksOf (sceneOf l))
+  pub codes-are : (lent left : List ℕ) (r : ℕ) → Parents l (record { from = lent; to = left }) r → r ≡ 0
+      → take (l .header .graph .nodes .count) left ≡ codesOf (marksOf (sceneOf l))
   codes-are lent left r p z =
       let codes = codesOf (marksOf (sceneOf l)) in
       ap (take (l .header .graph .nodes .count)) (p .slots ∙ ap (λ (b : Bool). pick b (codes ++ drop (scene.nodeCount (sceneOf l)) lent) lent) (eq-eqb r 0 z))
@@ -94,7 +95,8 @@ module _ (l : Lent) where
   pub few : tablesNumber l ≡ 0 → l .header .graph .nodes .count ≤ 1024
   few z = omega (arith, node-count l, checked l z .few-nodes)
 
-  pub drawn : (lent left : List ℕ) (r : ℕ) → Parents l lent left r → length lent ≡ 1024 → r ≡ tablesNumber l
+  pub drawn : (lent left : List ℕ) (r : ℕ) → Parents l (record { from = lent; to = left }) r → length lent ≡ 1024
+      → r ≡ tablesNumber l
   drawn lent left r p e = p .number ∙ ap (parentsNumber l) e ∙ enough-room
 
   pub ready : (codes : List ℕ) → tablesNumber l ≡ 0 → codes ≡ codesOf (marksOf (sceneOf l)) → (length codes ≤ 1024) × Inside codes × (length codes ≡ l .header .graph .nodes .count)

@@ -31,7 +31,8 @@ Inside codes = (i p : ℕ) → upIn codes i ≡ some p → p < length codes
 unfoldable pub commonIn : List ℕ → List ℕ → Option ℕ
 commonIn codes [] = none
 commonIn codes (j ∷ js) =
-    pick (every (λ i. ltb i (length codes)) (j ∷ js)) (firstThat (λ a. every (λ i. isAmong a (lineIn codes i)) js) (lineIn codes j)) none
+    pick (every (λ i. ltb i (length codes)) (j ∷ js))
+    (firstThat (λ a. every (λ i. isAmong a (lineIn codes i)) js) (lineIn codes j)) none
 
 -- a node that is counted t times is counted once more
 unfoldable pub countOne : ℕ → List ℕ → ℕ → List ℕ
@@ -41,4 +42,5 @@ countOne t counts a = pick (eqb (getD counts a 0) t) (set counts a (t + 1)) coun
 pub record Leading (codes joints : List ℕ) (t : ℕ) (counts : List ℕ) : Type 0 where
   pub nodes : every (λ j. ltb j (length codes)) joints ≡ true
   pub most : (a : ℕ) → a < length counts → getD counts a 0 ≤ t
-  pub told : (a : ℕ) → a < length counts → eqb (getD counts a 0) t ≡ every (λ i. isAmong a (lineIn codes i)) (take t joints)
+  pub told : (a : ℕ) → a < length counts
+      → eqb (getD counts a 0) t ≡ every (λ i. isAmong a (lineIn codes i)) (take t joints)

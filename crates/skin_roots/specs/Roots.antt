@@ -18,7 +18,8 @@ use Rattle.skin_roots.specs.declared.Root.{Root}
 
 -- the root of skin k, whatever floats are lent, if the codes are those of the nodes' marks
 pub record Rooted (words : List ℕ) (h : Header) (k : ℕ) (codes : List ℕ) (r : Named) : Type 0 where
-  pub root : (floats nodeWeights meshWeights : List Float) → codes ≡ codesOf (marksOf (sceneOf (lentAs words floats nodeWeights meshWeights h)))
+  pub root : (floats nodeWeights meshWeights : List Float)
+      → codes ≡ codesOf (marksOf (sceneOf (lentAs words floats nodeWeights meshWeights h)))
       → namedOf r ≡ skinRoot (sceneOf (lentAs words floats nodeWeights meshWeights h)) k
 
 -- the number, and the root's id or 0

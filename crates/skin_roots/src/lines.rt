@@ -1,5 +1,5 @@
-// The line of a node: the node and those above it, by the marks of `graph::parents`. A code is 0 or 1 where nothing is above,
-// and p + 3 for node p.
+// The line of a node: the node and those above it, by the marks of `graph::parents`. A code is 0 or 1 where nothing is
+// above, and p + 3 for node p.
 use tables::Named;
 ghost use mathlib.Core.Path.{_≡_};
 ghost use Prim.Native.Nat.{_+_, _≤_, _<_};

@@ -16,14 +16,15 @@ ghost use mathlib.Core.Option.{some};
 ghost use Prim.Native.Nat.{_+_, _*_, _/_, _≤_, _<_};
 ghost use lib.ListN.{length};
 ghost use lib.Seq.{paste};
-ghost use Rattle.model.specs.Lists.{pick, part, row, rowsIn};
+ghost use Rattle.model.specs.Lists.{pick, part, row};
 ghost use Rattle.model.specs.Matrix.{linear, turned, inverseTranspose};
 ghost use Rattle.scene.specs.Values.{vec3, linearOf};
 ghost use Rattle.vertex_rows.specs.Rows.{flipped, rowChanged};
 ghost use Rattle.vertex_rows.specs.Blending.{blended};
 ghost use Rattle.transform.specs.Blocks.{unitOver, rowsFrom};
-ghost use Rattle.skinning.specs.Moved.{MovedFrom};
-ghost use Rattle.skinning.specs.Holding.{zeros, directionBy, Room, HeldOne, Held, HeldVertex, HeldRows};
+ghost use Rattle.skinning.specs.Moved.{MovesFrom};
+ghost use Rattle.skinning.specs.Holding.{zeros, directionBy, Room, HoldsOne, HoldsDirections};
+ghost use Rattle.skinning.specs.Holding.{HoldsVertex, HoldsBlock};
 
 // Whether a block has all its normals, and all its tangents. Where it has not, it has none.
 struct Whole {
@@ -54,8 +55,7 @@ fn direction(l: Linear, v: Vec3) -> Vec3
 // Puts the direction of normal v at i.
 fn hold_normal(m: Mat4, whole: bool, normals: &[f32], v: usize, held: &mut [f32], i: usize)
     requires { ⌜ (i * 3 + 3 ≤ length (now held)) × (whole ≡ true → v < length (now normals) / 3) ⌝ }
-    ensures { λ _. ⌜ HeldOne whole i (directionBy (inverseTranspose (m .m)) (row 3 (now (normals .entry)) v))
-        (now (held .entry)) (now (held .exit)) ⌝ }
+    ensures { λ _. ⌜ HoldsOne whole i (directionBy (inverseTranspose (m .m)) (row 3 (now (normals .entry)) v)) held ⌝ }
 {
     if whole {
         let n = load3(normals, v * 3);
@@ -70,8 +70,7 @@ fn hold_normal(m: Mat4, whole: bool, normals: &[f32], v: usize, held: &mut [f32]
 // Puts the direction of tangent v at i.
 fn hold_tangent(m: Mat4, whole: bool, tangents: &[f32], v: usize, held: &mut [f32], i: usize)
     requires { ⌜ (i * 3 + 3 ≤ length (now held)) × (whole ≡ true → v < length (now tangents) / 4) ⌝ }
-    ensures { λ _. ⌜ HeldOne whole i (turned (linear (m .m)) (part (now (tangents .entry)) (v * 4) 3))
-        (now (held .entry)) (now (held .exit)) ⌝ }
+    ensures { λ _. ⌜ HoldsOne whole i (turned (linear (m .m)) (part (now (tangents .entry)) (v * 4) 3)) held ⌝ }
 {
     if whole {
         let t = load3(tangents, v * 4);
@@ -100,8 +99,7 @@ fn hold_directions(
     i: usize,
 )
     requires { ⌜ Room whole v i (now normals) (now tangents) (now n) (now t) ⌝ }
-    ensures { λ _. ⌜ Held whole (some (m .m)) v i (now (normals .entry)) (now (tangents .entry))
-        (now (tangents .exit)) (now (n .entry)) (now (n .exit)) (now (t .entry)) (now (t .exit)) ⌝ }
+    ensures { λ _. ⌜ HoldsDirections whole (some (m .m)) v i normals tangents n t ⌝ }
 {
     let mirror = scene::linear_det(m) < 0.0;
     hold_normal(m, whole.normals, normals, v, n, i);
@@ -137,9 +135,7 @@ fn hold_vertex(
     i: usize,
 )
     requires { ⌜ Room whole v i (now normals) (now tangents) (now n) (now t) ⌝ }
-    ensures { λ _. ⌜ HeldVertex whole (blended b) v i (now (positions .entry)) (now (positions .exit))
-        (now (normals .entry)) (now (tangents .entry)) (now (tangents .exit)) (now (n .entry)) (now (n .exit))
-        (now (t .entry)) (now (t .exit)) ⌝ }
+    ensures { λ _. ⌜ HoldsVertex whole (blended b) v i positions normals tangents n t ⌝ }
 {
     if b.any {
         let m = b.matrix;
@@ -163,9 +159,7 @@ fn hold_block(
 ) -> Waiting
     requires { ⌜ (k + 16 ≤ length (now positions) / 3) × (whole .normals ≡ true → k + 16 ≤ length (now normals) / 3)
         × (whole .tangents ≡ true → k + 16 ≤ length (now tangents) / 4) ⌝ }
-    ensures { λ r. ⌜ HeldRows (rowsIn 16 (now (palette .entry))) (rowsIn 4 (now (joints .entry)))
-        (rowsIn 4 (now (weights .entry))) whole k 16 (now (positions .entry)) (now (positions .exit))
-        (now (normals .entry)) (now (tangents .entry)) (now (tangents .exit)) (r .normals) (r .tangents) ⌝ }
+    ensures { λ r. ⌜ HoldsBlock palette joints weights whole k positions normals tangents r ⌝ }
 {
     let mut n = [0.0f32; 48];
     let mut t = [0.0f32; 48];
@@ -215,9 +209,7 @@ pub(crate) fn skin_block(
     requires { ⌜ (k + 16 ≤ length (now positions) / 3)
         × (length (now normals) / 3 < k + 16 → length (now normals) / 3 ≤ k)
         × (length (now tangents) / 4 < k + 16 → length (now tangents) / 4 ≤ k) ⌝ }
-    ensures { λ _. ⌜ MovedFrom (rowsIn 16 (now (palette .entry))) (rowsIn 4 (now (joints .entry)))
-        (rowsIn 4 (now (weights .entry))) k 16 (now (positions .entry)) (now (positions .exit)) (now (normals .entry))
-        (now (normals .exit)) (now (tangents .entry)) (now (tangents .exit)) ⌝ }
+    ensures { λ _. ⌜ MovesFrom palette joints weights k 16 positions normals tangents ⌝ }
 {
     let whole = Whole {
         normals: k + 16 <= normals.len() / 3,

@@ -6,12 +6,12 @@ use vertex_rows::joint_matrix;
 use vertex_rows::skin_vertex;
 ghost use mathlib.Core.Path.{_≡_};
 ghost use mathlib.Core.Bool.{false};
-ghost use Prim.Native.Nat.{_+_, _*_, _/_, _≤_, _<_};
+ghost use Prim.Native.Nat.{_+_, _/_, _≤_, _<_};
 ghost use lib.ListN.{length};
 ghost use Rattle.borrowed.specs.InPlace.{InPlace};
 ghost use Rattle.model.specs.Lists.{rowsIn};
 ghost use Rattle.model.specs.Vertices.{skinned};
-ghost use Rattle.skinning.specs.Moved.{MovedFrom, FirstMoved};
+ghost use Rattle.skinning.specs.Moved.{MovesFrom, MovesBlocks};
 
 mod holding;
 
@@ -27,9 +27,7 @@ fn skin_each(
     n: usize,
 )
     requires { ⌜ k + n ≤ length (now positions) / 3 ⌝ }
-    ensures { λ _. ⌜ MovedFrom (rowsIn 16 (now (palette .entry))) (rowsIn 4 (now (joints .entry)))
-        (rowsIn 4 (now (weights .entry))) k n (now (positions .entry)) (now (positions .exit)) (now (normals .entry))
-        (now (normals .exit)) (now (tangents .entry)) (now (tangents .exit)) ⌝ }
+    ensures { λ _. ⌜ MovesFrom palette joints weights k n positions normals tangents ⌝ }
 {
     let mut i = 0usize;
     while i < n {
@@ -60,9 +58,7 @@ fn skin_sixteen(
     k: usize,
 )
     requires { ⌜ k + 16 ≤ length (now positions) / 3 ⌝ }
-    ensures { λ _. ⌜ MovedFrom (rowsIn 16 (now (palette .entry))) (rowsIn 4 (now (joints .entry)))
-        (rowsIn 4 (now (weights .entry))) k 16 (now (positions .entry)) (now (positions .exit)) (now (normals .entry))
-        (now (normals .exit)) (now (tangents .entry)) (now (tangents .exit)) ⌝ }
+    ensures { λ _. ⌜ MovesFrom palette joints weights k 16 positions normals tangents ⌝ }
 {
     if is_split(normals.len() / 3, k) | is_split(tangents.len() / 4, k) {
         skin_each(
@@ -89,10 +85,7 @@ fn skin_blocks(
     normals: &mut [f32],
     tangents: &mut [f32],
 )
-    ensures { λ _. ⌜ FirstMoved (rowsIn 16 (now (palette .entry))) (rowsIn 4 (now (joints .entry)))
-        (rowsIn 4 (now (weights .entry))) (length (now (positions .entry)) / 3 / 16 * 16) (now (positions .entry))
-        (now (positions .exit)) (now (normals .entry)) (now (normals .exit)) (now (tangents .entry))
-        (now (tangents .exit)) ⌝ }
+    ensures { λ _. ⌜ MovesBlocks palette joints weights positions normals tangents ⌝ }
 {
     let n = positions.len() / 3 / 16;
     let mut b = 0usize;

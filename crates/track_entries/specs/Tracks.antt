@@ -6,6 +6,8 @@ use mathlib.Core.List.{List, [], _∷_, _++_}
 use Prim.Native.Nat.{ℕ}
 use lib.Ieee.{Float}
 use lib.ListN.{length, drop}
+use denote.Ref.{now}
+use Rattle.borrowed.specs.Slices.{Floats}
 use Rattle.model.specs.Calls.{Sampled, sampled, frameOf, strideOf}
 use Rattle.model.specs.Refusals.{overLimit, firstOf, lowest, frameNumber}
 use Rattle.outputs.specs.Output.{CopiedOut}
@@ -64,15 +66,24 @@ abbrev pub markOf : Bool → ℕ
 markOf false = 0
 markOf true = 1
 
--- a sampled track: number and weights are told, a Vec3 or Quat stands at the start of an array that is otherwise as lent, and the
--- slice is left as the sampling leaves it
+-- a sampled track: number and weights are told, a Vec3 or Quat stands at the start of an array that is otherwise as
+-- lent, and the slice is left as the sampling leaves it
 pub record Delivered (s : Sampled) (lent array slice : List Float) (told : Told) : Type 0 where
   pub number : told .number ≡ s .number
   pub count : told .count ≡ s .weights
   pub value : array ≡ s .value ++ drop (length (s .value)) lent
   pub weights : slice ≡ s .slice
 
+-- a track that is handed in by numbers, in an array and a slice that are borrowed
+abbrev pub Samples : List Float → ChannelRow → Float → Floats → Floats → Told → Type 0
+Samples floats r time value out told =
+    Delivered (sampledFor floats r time (now (out .entry)))
+    (now (value .entry)) (now (value .exit)) (now (out .exit)) told
+
 -- frame k, or all three rows of it, copied into an output
 abbrev pub Framed : List Float → ChannelRow → Bool → ℕ → List Float → List Float → Told → Type 0
 Framed floats r rows k lent left told =
     CopiedOut (frameNumberFor floats r rows k) (frameFor floats r rows k) lent left (told .number) (told .count)
+
+abbrev pub Frames : List Float → ChannelRow → Bool → ℕ → Floats → Told → Type 0
+Frames floats r rows k out told = Framed floats r rows k (now (out .entry)) (now (out .exit)) told

@@ -3,6 +3,7 @@
 // how many there are, and the same of its values, which are counted by the kind's entries. A kind or interpolation
 // that names nothing draws 2, or 1 where the track leaves the table; the values of such a kind are counted as weights.
 use animation::SampledValue;
+use refusals::OVER_LIMIT;
 use scene::Quat;
 use scene::Vec3;
 use tables::ChannelRow;
@@ -19,7 +20,7 @@ ghost use Rattle.animation.specs.Values.{answerOf};
 ghost use Rattle.tables.specs.Tags.{isMarked, trackFor};
 ghost use Rattle.row_checks.specs.Bounds.{tagsKnown};
 ghost use Rattle.track_entries.specs.Tracks.{rowFor, sampledFor, frameIn, strideFor, markOf};
-ghost use Rattle.track_entries.specs.Tracks.{Delivered, Framed};
+ghost use Rattle.track_entries.specs.Tracks.{Samples, Frames};
 
 // The numbers of a track, as a channel's.
 pub(crate) fn row_for(
@@ -93,7 +94,7 @@ fn sample_row(floats: &[f32], row: ChannelRow, time: f32, out: &mut [f32]) -> Sa
     ensures { λ r. ⌜ answerOf r (now (out .exit)) ≡ sampledFor (now (floats .entry)) row time (now (out .entry)) ⌝ }
 {
     if is_unnamed(floats.len(), row) {
-        return SampledValue::Refused(2);
+        return SampledValue::Refused(OVER_LIMIT);
     }
     animation::sample(floats, tables::track_of(row), time, out)
 }
@@ -113,9 +114,8 @@ pub extern "C" fn sample_floats(
     value: &mut [f32; 4],
     out: &mut [f32],
 ) -> Told
-    ensures { λ r. ⌜ Delivered (sampledFor (now (floats .entry))
-        (rowFor kind interpolation «keys_at» «keys_count» «values_at» «values_count») time (now (out .entry)))
-        (now (value .entry)) (now (value .exit)) (now (out .exit)) r ⌝ }
+    ensures { λ r. ⌜ Samples (now (floats .entry))
+        (rowFor kind interpolation «keys_at» «keys_count» «values_at» «values_count») time value out r ⌝ }
 {
     let row = row_for(
         kind,
@@ -172,9 +172,8 @@ pub extern "C" fn frame_floats(
     k: usize,
     out: &mut [f32],
 ) -> Told
-    ensures { λ r. ⌜ Framed (now (floats .entry))
-        (rowFor kind interpolation «keys_at» «keys_count» «values_at» «values_count») (isMarked rows) k
-        (now (out .entry)) (now (out .exit)) r ⌝ }
+    ensures { λ r. ⌜ Frames (now (floats .entry))
+        (rowFor kind interpolation «keys_at» «keys_count» «values_at» «values_count») (isMarked rows) k out r ⌝ }
 {
     let row = row_for(
         kind,
@@ -186,7 +185,7 @@ pub extern "C" fn frame_floats(
     );
     if is_unnamed(floats.len(), row) {
         return Told {
-            number: 2,
+            number: OVER_LIMIT,
             count: 0,
         };
     }

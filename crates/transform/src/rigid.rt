@@ -12,7 +12,7 @@ ghost use Rattle.model.specs.Vertices.{turnedNormal, transformed};
 ghost use Rattle.model.specs.Attributes.{overRows};
 ghost use Rattle.scene.specs.Values.{mat3, linearOf};
 ghost use Rattle.vertex_rows.specs.Rows.{tangentBy};
-ghost use Rattle.transform.specs.Rigid.{TurnedAll};
+ghost use Rattle.transform.specs.Rigid.{TurnsAll};
 
 // Turns all normals by the normal matrix, if there is one.
 fn transform_normals(n: Linear, normals: &mut [f32])
@@ -38,8 +38,7 @@ fn transform_tangents(l: Mat3, mirror: bool, tangents: &mut [f32])
 }
 
 fn transform_directions(m: Mat4, normals: &mut [f32], tangents: &mut [f32])
-    ensures { λ _. ⌜ TurnedAll (m .m) (now (normals .entry)) (now (normals .exit)) (now (tangents .entry))
-        (now (tangents .exit)) ⌝ }
+    ensures { λ _. ⌜ TurnsAll (m .m) normals tangents ⌝ }
 {
     transform_normals(inverse::normal_matrix(m), normals);
     transform_tangents(scene::linear_part(m), scene::linear_det(m) < 0.0, tangents);

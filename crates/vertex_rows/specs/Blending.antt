@@ -7,6 +7,8 @@ use lib.Ieee.{Float}
 use lib.ListN.{replicate}
 use Rattle.float.specs.F32.{zero32}
 use Rattle.model.specs.Lists.{pick, foldl, isSome}
+use denote.Ref.{now}
+use Rattle.borrowed.specs.Slices.{Floats}
 use Rattle.model.specs.Vector.{_⊙_, _⊞_}
 use Rattle.model.specs.Matrix.{Matrix, inverseTranspose}
 use Rattle.model.specs.Vertices.{Influence, influences, mixture, byMatrix, affinePoint, turnedNormal, turnedTangent}
@@ -31,8 +33,19 @@ pub record Turned (m : Matrix) (v : ℕ) (lentNormals leftNormals lentTangents l
   pub normals : leftNormals ≡ rowChanged 3 (turnedNormal (inverseTranspose m)) v lentNormals
   pub tangents : leftTangents ≡ rowChanged 4 (turnedTangent m) v lentTangents
 
+-- in the slices that are borrowed
+abbrev pub TurnedIn : Matrix → ℕ → Floats → Floats → Type 0
+TurnedIn m v normals tangents =
+    Turned m v (now (normals .entry)) (now (normals .exit)) (now (tangents .entry)) (now (tangents .exit))
+
 -- vertex v after it is moved by its matrix, if it has one
-pub record Skinned (o : Option Matrix) (v : ℕ) (lentPositions leftPositions lentNormals leftNormals lentTangents leftTangents : List Float) : Type 0 where
+pub record Skinned (o : Option Matrix) (v : ℕ)
+    (lentPositions leftPositions lentNormals leftNormals lentTangents leftTangents : List Float) : Type 0 where
   pub positions : leftPositions ≡ rowChanged 3 (byMatrix affinePoint o) v lentPositions
   pub normals : leftNormals ≡ rowChanged 3 (byMatrix (λ m y. turnedNormal (inverseTranspose m) y) o) v lentNormals
   pub tangents : leftTangents ≡ rowChanged 4 (byMatrix turnedTangent o) v lentTangents
+
+abbrev pub SkinnedIn : Option Matrix → ℕ → Floats → Floats → Floats → Type 0
+SkinnedIn o v positions normals tangents =
+    Skinned o v (now (positions .entry)) (now (positions .exit))
+    (now (normals .entry)) (now (normals .exit)) (now (tangents .entry)) (now (tangents .exit))

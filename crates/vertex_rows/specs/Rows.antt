@@ -26,7 +26,8 @@ flipped v = take 3 v ++ (neg (at v 3) ∷ [])
 
 -- the bottom row is (0, 0, 0, 1)
 unfoldable pub hasPlainBottom : Matrix → Bool
-hasPlainBottom m = eq (entry m 3 0) zero32 && eq (entry m 3 1) zero32 && eq (entry m 3 2) zero32 && eq (entry m 3 3) one32
+hasPlainBottom m =
+    eq (entry m 3 0) zero32 && eq (entry m 3 1) zero32 && eq (entry m 3 2) zero32 && eq (entry m 3 3) one32
 
 -- a slice with row k changed, if it has that row
 unfoldable pub rowChanged : ℕ → (Vector → Vector) → ℕ → List Float → List Float

@@ -4,6 +4,8 @@ use mathlib.Core.List.{List, [], _∷_, _++_}
 use Prim.Native.Nat.{ℕ, _+_, _*_, _/_, _%_, min}
 use lib.Ieee.{Float, binary32, ofBits, toBits}
 use lib.ListN.{length, getD, take, drop}
+use denote.Ref.{now}
+use Rattle.borrowed.specs.Slices.{Words, Floats}
 use Rattle.model.specs.Lists.{tabulate}
 
 -- the word whose first byte is byte i
@@ -43,3 +45,10 @@ pub record WroteAs {A : Type 0} (g : A → ℕ) (entries : List A) (lent left : 
 
 abbrev pub WroteBytes : List Float → List ℕ → List ℕ → ℕ → Type 0
 WroteBytes floats lent left count = WroteAs (toBits binary32) floats lent left count
+
+-- in bytes that are borrowed
+abbrev pub WritesWords : Words → Words → ℕ → Type 0
+WritesWords words bytes count = WroteAs (λ w. w) (now (words .entry)) (now (bytes .entry)) (now (bytes .exit)) count
+
+abbrev pub WritesFloats : Floats → Words → ℕ → Type 0
+WritesFloats floats bytes count = WroteBytes (now (floats .entry)) (now (bytes .entry)) (now (bytes .exit)) count

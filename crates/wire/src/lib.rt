@@ -4,8 +4,8 @@ ghost use mathlib.Core.List.{_++_};
 ghost use Prim.Native.Nat.{_+_, _≤_, _<_, min};
 ghost use lib.Ieee.{nan};
 ghost use lib.ListN.{length, getD, take, drop};
-ghost use Rattle.model.specs.Written.{Wrote};
-ghost use Rattle.wire.specs.Bytes.{wordAt, wordsIn, floatsIn, wordBytes, WroteAs, WroteBytes};
+ghost use Rattle.borrowed.specs.Written.{Writes};
+ghost use Rattle.wire.specs.Bytes.{wordAt, wordsIn, floatsIn, wordBytes, WritesWords, WritesFloats};
 
 pub fn least(a: usize, b: usize) -> usize
     ensures { λ r. ⌜ r ≡ min a b ⌝ }
@@ -15,7 +15,7 @@ pub fn least(a: usize, b: usize) -> usize
 
 // Copies to the start of `out` as much as there is room for, and answers how much.
 pub fn copy_floats(part: &[f32], out: &mut [f32]) -> usize
-    ensures { λ r. ⌜ Wrote (now (part .entry)) (now (out .entry)) (now (out .exit)) r ⌝ }
+    ensures { λ r. ⌜ Writes (now (part .entry)) out r ⌝ }
 {
     let n = least(part.len(), out.len());
     let mut i = 0;
@@ -68,7 +68,7 @@ fn put_word(bytes: &mut [u8], i: usize, w: u32)
 
 // Reads as many words as there are and `words` has room for, and answers how many. Past these `words` stays as lent.
 pub fn read_words(bytes: &[u8], words: &mut [u32]) -> usize
-    ensures { λ r. ⌜ Wrote (wordsIn (now (bytes .entry))) (now (words .entry)) (now (words .exit)) r ⌝ }
+    ensures { λ r. ⌜ Writes (wordsIn (now (bytes .entry))) words r ⌝ }
 {
     let n = least(bytes.len() / 4, words.len());
     let mut i = 0;
@@ -81,7 +81,7 @@ pub fn read_words(bytes: &[u8], words: &mut [u32]) -> usize
 
 // Reads as many floats as there are and `floats` has room for, and answers how many. Past these `floats` stays as lent.
 pub fn read_floats(bytes: &[u8], floats: &mut [f32]) -> usize
-    ensures { λ r. ⌜ Wrote (floatsIn (now (bytes .entry))) (now (floats .entry)) (now (floats .exit)) r ⌝ }
+    ensures { λ r. ⌜ Writes (floatsIn (now (bytes .entry))) floats r ⌝ }
 {
     let n = least(bytes.len() / 4, floats.len());
     let mut i = 0;
@@ -94,7 +94,7 @@ pub fn read_floats(bytes: &[u8], floats: &mut [f32]) -> usize
 
 // Writes as many words as there are and `bytes` has room for, and answers how many. Past these `bytes` stays as lent.
 pub fn write_words(words: &[u32], bytes: &mut [u8]) -> usize
-    ensures { λ r. ⌜ WroteAs (λ w. w) (now (words .entry)) (now (bytes .entry)) (now (bytes .exit)) r ⌝ }
+    ensures { λ r. ⌜ WritesWords words bytes r ⌝ }
 {
     let n = least(words.len(), bytes.len() / 4);
     let mut i = 0;
@@ -107,7 +107,7 @@ pub fn write_words(words: &[u32], bytes: &mut [u8]) -> usize
 
 // Writes as many floats as there are and `bytes` has room for, and answers how many. Past these `bytes` stays as lent.
 pub fn write_floats(floats: &[f32], bytes: &mut [u8]) -> usize
-    ensures { λ r. ⌜ WroteBytes (now (floats .entry)) (now (bytes .entry)) (now (bytes .exit)) r ⌝ }
+    ensures { λ r. ⌜ WritesFloats floats bytes r ⌝ }
 {
     let n = least(floats.len(), bytes.len() / 4);
     let mut i = 0;

@@ -108,7 +108,8 @@ module _ (l : Lent) (marks : List ℕ) (slots : List Float) where
       world-room = let r = enough (sceneOf l) given (clear (tablesNumber l) (sceneOf l) given z .1) in omega (arith, node-count l, r .2)
 
       pub accepted : (leftWalk leftCodes : List ℕ) (leftFloats : List Float) (n : ℕ)
-          → Run (listingIn (l .words) (l .header .graph)) local lentWalk leftWalk lentCodes leftCodes lentFloats leftFloats n
+          → Run (listingIn (l .words) (l .header .graph)) local (record { from = lentWalk; to = leftWalk })
+          (record { from = lentCodes; to = leftCodes }) (record { from = lentFloats; to = leftFloats }) n
           → Placed l marks slots lentWalk leftWalk lentCodes leftCodes lentFloats leftFloats (record { number = 0; taken = n })
       accepted leftWalk leftCodes leftFloats n run =
           let k = same-listing l .count in

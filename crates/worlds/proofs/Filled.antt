@@ -10,6 +10,7 @@ use lib.Ieee.{Float}
 use lib.ListN.{length, getD, take, drop, set, replicate, length-replicate, length-set, length-append, length-map, List·getD-append, replicate-append-replicate}
 use lib.Seq.{take-at}
 use Rattle.float.specs.F32.{zero32}
+use Rattle.borrowed.specs.Slices.{Change}
 use Rattle.model.specs.Lists.{foldl, joined}
 use Rattle.model.specs.Matrix.{Matrix}
 use Rattle.model.specs.Scene.{Scene, nodeCount}
@@ -20,7 +21,7 @@ use Rattle.model.proofs.Walking.{in-turn}
 use Rattle.model.proofs.Paths.{replicate-at}
 use Rattle.model.proofs.Placed.{placed-in-range}
 use Rattle.tables.specs.Codes.{codeOf, codesOf}
-use Rattle.placing.specs.Walk.{Change, Walked}
+use Rattle.placing.specs.Walk.{Walked}
 use Rattle.worlds.specs.Slots.{slotOf, slotsOf, placedIn}
 use Rattle.worlds.proofs.Stepping.{rows-zero, Having, Told, getD-map, placed-slots}
 
@@ -49,26 +50,27 @@ each-of : {A : Type 0} (P : A → Type 0) (l : List A) → ((x : A) → List·Me
 each-of P [] h = tt
 each-of P (x ∷ xs) h = (h x (List·Memᴰ·head refl), each-of P xs (λ y m. h y (List·Memᴰ·tail m)))
 
-module _ (s : Scene) (room codes ids : Change) (taken placed : ℕ) (w : Walked s room codes ids taken placed) where
-  pub nodes-in-order : take placed (ids .left) ≡ map (λ (e : Entry). e .node) (order s)
+module _ (s : Scene) (room codes ids : Change (List ℕ)) (taken placed : ℕ)
+    (w : Walked s room codes ids taken placed) where
+  pub nodes-in-order : take placed (ids .to) ≡ map (λ (e : Entry). e .node) (order s)
   nodes-in-order =
       ap (take placed) (w .order)
       ∙ take-at (map (λ (e : Entry). e .node) (order s)) _ placed (length-map (order s) (λ (e : Entry). e .node) ∙ sym (w .counted))
 
-  pub part-length : length (take placed (ids .left)) ≡ placed
+  pub part-length : length (take placed (ids .to)) ≡ placed
   part-length = ap length nodes-in-order ∙ length-map (order s) (λ (e : Entry). e .node) ∙ sym (w .counted)
 
-  pub order-holds : placed ≤ length (ids .left)
+  pub order-holds : placed ≤ length (ids .to)
   order-holds =
       let nodes = map (λ (e : Entry). e .node) (order s) in
-      omega (arith, ap length (w .order), length-append nodes (drop (length (order s)) (ids .lent)), length-map (order s) (λ (e : Entry). e .node), w .counted)
+      omega (arith, ap length (w .order), length-append nodes (drop (length (order s)) (ids .from)), length-map (order s) (λ (e : Entry). e .node), w .counted)
 
   codes-length : length (codesOf (places s)) ≡ nodeCount s
   codes-length = length-map (places s) codeOf ∙ places-length s
 
-  told : Told (codes .left) (order s)
+  told : Told (codes .to) (order s)
   told =
-      each-of (λ (e : Entry). getD (codes .left) (e .node) 0 ≡ codeOf (e .place)) (order s)
+      each-of (λ (e : Entry). getD (codes .to) (e .node) 0 ≡ codeOf (e .place)) (order s)
       (λ e m.
       let p = placed-in-range s e m in
       let b : e .node < length (places s) = omega (arith, places-length s, p .0) in
@@ -79,10 +81,10 @@ module _ (s : Scene) (room codes ids : Change) (taken placed : ℕ) (w : Walked 
 
   -- from empty slots, the nodes in order
   pub all-worlds : (local : ℕ → Matrix) (m : ℕ) → m ≡ nodeCount s * 16
-      → foldl (placedIn local (codes .left)) (replicate m zero32) (take placed (ids .left)) ≡ slotsOf (worldsFrom local (replicate (nodeCount s) none) (order s))
+      → foldl (placedIn local (codes .to)) (replicate m zero32) (take placed (ids .to)) ≡ slotsOf (worldsFrom local (replicate (nodeCount s) none) (order s))
   all-worlds local m e =
-      (λ j. foldl (placedIn local (codes .left)) (empty j) (nodes-in-order j))
-      ∙ placed-slots local (codes .left) [] (order s) (start s) (replicate (nodeCount s) none) (rows-zero (nodeCount s))
+      (λ j. foldl (placedIn local (codes .to)) (empty j) (nodes-in-order j))
+      ∙ placed-slots local (codes .to) [] (order s) (start s) (replicate (nodeCount s) none) (rows-zero (nodeCount s))
       (length-replicate (nodeCount s) none ∙ sym (length-replicate (nodeCount s) unplaced))
       (in-turn s) (none-placed (nodeCount s)) told
       ∙ append-nil _

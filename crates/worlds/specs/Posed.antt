@@ -11,4 +11,5 @@ use Rattle.tables.specs.Decoded.{baseOf}
 use Rattle.pose_slots.specs.Slots.{poseIn}
 
 unfoldable pub localIn : List ℕ → List Float → Part → List ℕ → List Float → ℕ → Matrix
-localIn words floats nodes marks slots i = toMatrix (localTransform (poseIn marks slots i) (baseOf floats (nodeRow words nodes i)))
+localIn words floats nodes marks slots i =
+    toMatrix (localTransform (poseIn marks slots i) (baseOf floats (nodeRow words nodes i)))

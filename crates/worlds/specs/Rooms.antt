@@ -6,7 +6,8 @@ use lib.Dec.{ltb}
 use Rattle.tables.specs.declared.Graph.{Graph}
 use Rattle.checks.specs.Drawn.{cappedEntries}
 
--- walk room below roots and child entries; of tables that draw no number these are those of the scene (proofs/Answering.antt `short-is`)
+-- walk room below roots and child entries; of tables that draw no number these are those of the scene
+-- (proofs/Answering.antt `short-is`)
 abbrev pub walkIsShort : List ℕ → Graph → ℕ → Bool
 walkIsShort words graph walk = ltb walk (graph .roots .count + cappedEntries words (graph .nodes))
 

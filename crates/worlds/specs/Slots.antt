@@ -1,4 +1,5 @@
--- World slots as they are lent: sixteen floats a node, zeros where it has no world; and one node's world written there. Definitions only.
+-- World slots as they are lent: sixteen floats a node, zeros where it has no world; and one node's world written there.
+-- Definitions only.
 use mathlib.Core.Bool.{_&&_}
 use mathlib.Core.List.{List, map}
 use mathlib.Core.Option.{Option, none, some}

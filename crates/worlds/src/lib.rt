@@ -5,11 +5,12 @@ use tables::Header;
 ghost use mathlib.Core.Path.{_≡_};
 ghost use Prim.Native.Nat.{_+_, _*_, _≤_};
 ghost use lib.ListN.{length};
+ghost use Rattle.borrowed.specs.Slices.{change};
 ghost use Rattle.model.specs.Limits.{nodeLimit};
 ghost use Rattle.checks.specs.Drawn.{sceneLent};
 ghost use Rattle.placing.specs.Walk.{listingIn, entriesOf};
 ghost use Rattle.worlds.specs.Posed.{localIn};
-ghost use Rattle.worlds.specs.Placed.{Run, Placed};
+ghost use Rattle.worlds.specs.Placed.{Run, NodesPlaced};
 
 mod numbers;
 mod posing;
@@ -40,8 +41,7 @@ pub fn place_all(
     requires { ⌜ graph .nodes .count * 16 ≤ length (now worlds) ⌝ }
     ensures { λ r. ⌜ Run (listingIn (now (words .entry)) graph)
         (localIn (now (words .entry)) (now (floats .entry)) (graph .nodes) (now (marks .entry)) (now (slots .entry)))
-        (now (walk .entry)) (now (walk .exit)) (now (places .entry)) (now (places .exit)) (now (worlds .entry))
-        (now (worlds .exit)) r ⌝ }
+        (change walk) (change places) (change worlds) r ⌝ }
 {
     let mut order = [0u32; NODE_LIMIT];
     let nodes = graph.nodes;
@@ -74,9 +74,8 @@ pub fn posed_node_transforms(
     places: &mut [u32],
     worlds: &mut [f32],
 ) -> Answer
-    ensures { λ r. ⌜ Placed (sceneLent words floats «node_weights» «mesh_weights» h) (now (marks .entry))
-        (now (slots .entry)) (now (walk .entry)) (now (walk .exit)) (now (places .entry)) (now (places .exit))
-        (now (worlds .entry)) (now (worlds .exit)) r ⌝ }
+    ensures { λ r. ⌜ NodesPlaced (sceneLent words floats «node_weights» «mesh_weights» h) (now (marks .entry))
+        (now (slots .entry)) (change walk) (change places) (change worlds) r ⌝ }
 {
     let number = numbers::place_number(
         words,
