@@ -8,6 +8,7 @@ use Prim.Native.Nat.{ℕ, zero, suc}
 use native.Mathlib.Omega.{arith}
 use borrow.Author.Tests.{eq-eqb, ne-eqb}
 use lib.Ieee.{Float}
+use Rattle.borrowed.specs.Slices.{Change}
 use Rattle.model.specs.Lists.{pick, isSome}
 use Rattle.model.specs.Scene.{Scene, Mesh, meshAt}
 use Rattle.model.specs.Matrix.{Matrix}
@@ -19,10 +20,10 @@ use Rattle.tables.specs.Decoded.{Lent, sceneOf}
 use Rattle.checks.specs.Drawn.{tablesNumber}
 use Rattle.bake_stages.specs.Scratch.{roomOf, scratchLeft}
 use Rattle.bake.specs.declared.Answer.{Answer}
-use Rattle.bake.specs.Baked.{Room, Change}
+use Rattle.bake.specs.Baked.{Room}
 use Rattle.lent_bytes.specs.Bytes.{SceneBytes, Decoding, lentBy, drawnBy, decodedTo}
 use Rattle.byte_checks.specs.Numbers.{earlyIn, firstIn}
-use Rattle.byte_baking.specs.Output.{ByteOutput, ByteOutputChange, withOutput}
+use Rattle.byte_baking.specs.Output.{ByteOutput, withOutput}
 use Rattle.byte_baking.specs.Baked.{requestIn, outcomeIn, isReached, roomIn, BakedIn}
 use Rattle.byte_bake.specs.Baked.{BakedBytes}
 
@@ -93,7 +94,7 @@ nothing-drawn zero zero m q = refl
 nothing-drawn zero (suc g) m q = q
 nothing-drawn (suc e) g m q = absurd (omega (arith, q))
 
-module _ (b : SceneBytes) (h : Header) (i : ℕ) (time : Float) (d : Decoding) (c : Change) (o : ByteOutputChange) (n : ℕ) (p : n ≡ firstIn (drawnBy b d) (lentBy b h) i time (roomOf (c .from .scratch))) (none-number : n ≡ 0) where
+module _ (b : SceneBytes) (h : Header) (i : ℕ) (time : Float) (d : Decoding) (c : Change Room) (o : Change ByteOutput) (n : ℕ) (p : n ≡ firstIn (drawnBy b d) (lentBy b h) i time (roomOf (c .from .scratch))) (none-number : n ≡ 0) where
   -- the room is long enough
   pub long-enough : drawnBy b d ≡ 0
   long-enough = nothing-drawn (earlyNumber (tablesNumber (lentBy b h)) (sceneOf (lentBy b h)) time (roomOf (c .from .scratch))) (drawnBy b d) _ (sym p ∙ none-number)
@@ -107,5 +108,5 @@ module _ (b : SceneBytes) (h : Header) (i : ℕ) (time : Float) (d : Decoding) (
 
 -- ---- of an equal scene
 
-pub same-lent : {l m : Lent} {i : ℕ} {time : Float} {c : Change} {o : ByteOutputChange} {a : Answer} → l ≡ m → BakedIn 0 l i time c o a → BakedIn 0 m i time c o a
+pub same-lent : {l m : Lent} {i : ℕ} {time : Float} {c : Change Room} {o : Change ByteOutput} {a : Answer} → l ≡ m → BakedIn 0 l i time c o a → BakedIn 0 m i time c o a
 same-lent {i = i} {time = time} {c = c} {o = o} {a = a} e k = subst (λ (x : Lent). BakedIn 0 x i time c o a) e k

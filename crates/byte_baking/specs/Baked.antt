@@ -5,14 +5,15 @@ use Prim.Native.Nat.{ℕ, _/_, min}
 use lib.Dec.{eqb}
 use lib.Ieee.{Float}
 use lib.ListN.{length}
+use Rattle.borrowed.specs.Slices.{Change}
 use Rattle.model.specs.Lists.{pick}
 use Rattle.model.specs.Bake as model
 use Rattle.tables.specs.Decoded.{Lent, sceneOf}
 use Rattle.bake_stages.specs.Scratch.{roomOf, scratchLeft}
 use Rattle.bake.specs.declared.Answer.{Answer}
-use Rattle.bake.specs.Baked.{Room, Change, answerOf}
+use Rattle.bake.specs.Baked.{Room, answerOf}
 use Rattle.byte_checks.specs.Numbers.{earlyIn, firstIn}
-use Rattle.byte_baking.specs.Output.{ByteOutput, ByteOutputChange, withOutput}
+use Rattle.byte_baking.specs.Output.{ByteOutput, withOutput}
 
 -- node i at a time; an output has as much room as both its floats and its bytes have
 abbrev pub requestIn : ℕ → Float → Room → ByteOutput → model.Request
@@ -46,7 +47,7 @@ roomIn drawn l i time r o =
       };
     }
 
-pub record BakedIn (drawn : ℕ) (l : Lent) (i : ℕ) (time : Float) (c : Change) (o : ByteOutputChange) (a : Answer) : Type 0 where
+pub record BakedIn (drawn : ℕ) (l : Lent) (i : ℕ) (time : Float) (c : Change Room) (o : Change ByteOutput) (a : Answer) : Type 0 where
   pub answer : answerOf a ≡ outcomeIn drawn l i time (c .from) (o .from) .answer
   pub room : c .to ≡ roomIn drawn l i time (c .from) (o .from)
   pub bytes : o .to ≡ withOutput (outcomeIn drawn l i time (c .from) (o .from) .output) (o .from)

@@ -4,7 +4,7 @@ use Prim.Native.Nat.{ℕ, _*_, _≤_}
 use lib.Ieee.{Float}
 use lib.ListN.{length}
 use denote.Ref.{now}
-use Rattle.borrowed.specs.Slices.{Words}
+use Rattle.borrowed.specs.Slices.{Words, Change}
 use Rattle.model.specs.Bake.{Output}
 use Rattle.wire.specs.Bytes.{bytesOf}
 use Rattle.lent_bytes.specs.Bytes.{startingWith}
@@ -14,12 +14,7 @@ pub record ByteOutput : Type 0 where
   pub normals : List ℕ
   pub tangents : List ℕ
 
--- as a call that borrows them finds them, and as it leaves them
-pub record ByteOutputChange : Type 0 where
-  pub from : ByteOutput
-  pub to : ByteOutput
-
-abbrev pub byteOutput : Words → Words → Words → ByteOutputChange
+abbrev pub byteOutput : Words → Words → Words → Change ByteOutput
 byteOutput positions normals tangents = record {
   from = record { positions = now (positions .entry); normals = now (normals .entry); tangents = now (tangents .entry) };
   to = record { positions = now (positions .exit); normals = now (normals .exit); tangents = now (tangents .exit) };

@@ -6,7 +6,7 @@ use lib.Dec.{eqb}
 use lib.Ieee.{Float}
 use lib.ListN.{length, take, drop, replicate}
 use denote.Ref.{now}
-use Rattle.borrowed.specs.Slices.{Words, Floats}
+use Rattle.borrowed.specs.Slices.{Words, Floats, Change}
 use Rattle.model.specs.Lists.{pick}
 use Rattle.model.specs.Scene.{nodeCount}
 use Rattle.model.specs.Placing.{places, taken}
@@ -29,12 +29,7 @@ pub record Room : Type 0 where
   pub places : List ℕ
   pub worlds : List ℕ
 
--- as a call that borrows it finds it, and as it leaves it
-pub record Change : Type 0 where
-  pub from : Room
-  pub to : Room
-
-abbrev pub placingRoom : Words → Words → Floats → Words → Words → Change
+abbrev pub placingRoom : Words → Words → Floats → Words → Words → Change Room
 placingRoom walk codes matrices places worlds = record {
   from = record {
     walk = now (walk .entry);
@@ -75,7 +70,8 @@ placedTo l marks slots r =
     }
 
 -- the number, and the entries taken or 0; refused, nothing is changed. What the decoding room draws (0 or 6) is given
-pub record PlacedIn (drawn : ℕ) (l : Lent) (marks : List ℕ) (slots : List Float) (c : Change) (a : Answer) : Type 0 where
+pub record PlacedIn (drawn : ℕ) (l : Lent) (marks : List ℕ) (slots : List Float) (c : Change Room)
+    (a : Answer) : Type 0 where
   pub number : a .number ≡ placeIn drawn l (scratchIn marks slots (c .from))
   pub entries : a .taken ≡ pick (eqb (a .number) 0) (taken (sceneOf l)) 0
   pub slices : c .to ≡ pick (eqb (a .number) 0) (placedTo l marks slots (c .from)) (c .from)

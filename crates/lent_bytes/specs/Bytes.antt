@@ -6,7 +6,7 @@ use lib.Dec.{ltb}
 use lib.Ieee.{Float}
 use lib.ListN.{length, take, drop}
 use denote.Ref.{now}
-use Rattle.borrowed.specs.Slices.{Words, Floats}
+use Rattle.borrowed.specs.Slices.{Words, Floats, Change}
 use Rattle.model.specs.Lists.{pick, part}
 use Rattle.model.specs.Refusals.{number, shortScratch}
 use Rattle.wire.specs.Bytes.{wordsIn, floatsIn}
@@ -32,12 +32,7 @@ pub record Decoding : Type 0 where
   pub words : List ℕ
   pub floats : List Float
 
--- as a call that borrows it finds it, and as it leaves it
-pub record DecodingChange : Type 0 where
-  pub from : Decoding
-  pub to : Decoding
-
-abbrev pub decodingRoom : Words → Floats → DecodingChange
+abbrev pub decodingRoom : Words → Floats → Change Decoding
 decodingRoom words floats = record {
   from = record { words = now (words .entry); floats = now (floats .entry) };
   to = record { words = now (words .exit); floats = now (floats .exit) };
