@@ -7,15 +7,11 @@ use refusals::SHORT_SCRATCH;
 use tables::Header;
 use tracks::Part;
 ghost use mathlib.Core.Path.{_≡_};
-ghost use mathlib.Core.Bool.{false};
-ghost use Prim.Native.Nat.{_/_, _≤_, min};
-ghost use lib.Ieee.{isNan};
+ghost use Prim.Native.Nat.{_/_, min};
 ghost use Rattle.borrowed.specs.Slices.{change};
-ghost use Rattle.model.specs.Limits.{channelLimit};
 ghost use Rattle.checks.specs.Drawn.{sceneLent};
-ghost use Rattle.pose_slots.specs.Slots.{room};
 ghost use Rattle.pose_slots.specs.Channels.{channelsIn};
-ghost use Rattle.pose.specs.Lines.{NoneDrawn, AllInLine};
+ghost use Rattle.pose.specs.Lines.{Drivable};
 ghost use Rattle.pose.specs.Encoded.{Encoded, poseNumberFor, Posed};
 
 // How many nodes slices of such lengths have slots for.
@@ -66,9 +62,7 @@ pub fn pose_all(
     marks: &mut [u32],
     slots: &mut [f32],
 )
-    requires { ⌜ NoneDrawn (now words) (now floats) channels × (isNan time ≡ false)
-        × AllInLine (now words) (now floats) channels n × (n ≤ room (now marks) (now slots))
-        × (channels .count ≤ channelLimit) ⌝ }
+    requires { ⌜ Drivable (now words) (now floats) channels n time (now marks) (now slots) ⌝ }
     ensures { λ _. ⌜ Encoded (channelsIn (now (words .entry)) (now (floats .entry)) channels) time n marks slots ⌝ }
 {
     clear(marks, slots, n);

@@ -19,7 +19,7 @@ ghost use Rattle.tables.specs.Tags.{trackFor};
 ghost use Rattle.pose_slots.specs.Slots.{poseOf, room};
 ghost use Rattle.pose_slots.specs.Channels.{channelIn, channelsIn};
 ghost use Rattle.pose_slots.specs.Gifts.{bare, bringsWeights};
-ghost use Rattle.pose.specs.Lines.{outOfLine, NoneDrawn, AllInLine};
+ghost use Rattle.pose.specs.Lines.{outOfLine, Drivable};
 ghost use Rattle.pose.specs.Encoded.{clearedWords, clearedFloats, Cleared, Encoded};
 ghost use Rattle.pose.specs.Encoded.{driven, drivenWord, DrivenIn};
 
@@ -100,10 +100,8 @@ pub(crate) fn drive_all(
     marks: &mut [u32],
     slots: &mut [f32],
 )
-    requires { ⌜ NoneDrawn (now words) (now floats) channels × (isNan time ≡ false)
-        × AllInLine (now words) (now floats) channels n × (n ≤ room (now marks) (now slots))
-        × (channels .count ≤ channelLimit) × (now marks ≡ clearedWords n (now marks))
-        × (now slots ≡ clearedFloats n (now slots)) ⌝ }
+    requires { ⌜ Drivable (now words) (now floats) channels n time (now marks) (now slots) ⌝ }
+    requires { ⌜ (now marks ≡ clearedWords n (now marks)) × (now slots ≡ clearedFloats n (now slots)) ⌝ }
     ensures { λ _. ⌜ Encoded (channelsIn (now (words .entry)) (now (floats .entry)) channels) time n marks slots ⌝ }
 {
     let count = channels.count;

@@ -1,7 +1,7 @@
 -- The attributes of a primitive at rest, as they lie in the lent floats, and how many floats a mesh puts out.
 -- Definitions only.
 use mathlib.Core.Path.{_≡_}
-use mathlib.Core.List.{List, []}
+use mathlib.Core.List.{List, [], map}
 use mathlib.Core.Option.{Option, none, some}
 use mathlib.Core.Bool.{Bool, true}
 use Prim.Native.Nat.{ℕ, _+_, _*_, _≤_, _<_}
@@ -9,15 +9,16 @@ use lib.Ieee.{Float}
 use lib.ListN.{length}
 use lib.Seq.{paste}
 use denote.Ref.{now}
-use Rattle.borrowed.specs.Slices.{Floats}
+use Rattle.borrowed.specs.Slices.{Words, Floats}
 use Rattle.model.specs.Limits.{primitiveLimit}
 use Rattle.model.specs.Lists.{pick, joined, rowsIn}
 use Rattle.model.specs.Matrix.{Matrix}
 use Rattle.model.specs.Scene as scene
 use Rattle.model.specs.Vertices.{Shape}
 use Rattle.model.specs.Attributes.{attributesIn, Reshaped}
-use Rattle.model.specs.Bake.{Output, written}
+use Rattle.model.specs.Bake.{Output, bakedPrimitive, outputOf, written}
 use Rattle.tracks.specs.declared.Part.{Part}
+use Rattle.tables.specs.declared.Header.{Header}
 use Rattle.tables.specs.declared.Slot.{Slot}
 use Rattle.tables.specs.declared.PrimitiveRow.{PrimitiveRow}
 use Rattle.tables.specs.Records.{primitiveRow}
@@ -25,7 +26,7 @@ use Rattle.tables.specs.Tags.{isMarked}
 use Rattle.tables.specs.Decoded.{Lent, spanIn, recordsIn, primitiveOf}
 use Rattle.row_checks.specs.Places.{fitsIn, slotFits}
 use Rattle.row_checks.specs.Bounds.{primitiveWithin}
-use Rattle.checks.specs.Drawn.{sumBelow}
+use Rattle.checks.specs.Drawn.{sumBelow, lentAs}
 use Rattle.shapes.specs.declared.Lengths.{Lengths}
 
 -- an attribute that is absent has no floats
@@ -63,6 +64,18 @@ paletteIn there palette = pick there (some (rowsIn 16 palette)) none
 -- the primitives of a mesh
 abbrev pub primitivesIn : Lent → Part → List scene.Primitive
 primitivesIn l m = recordsIn (λ i. primitiveOf l (primitiveRow (l .words) (l .header .meshes .primitives) i)) m
+
+-- a primitive that is blended with weights, and placed by a world and a palette, if there is one
+abbrev pub bakedAs : Words → Floats → Header → PrimitiveRow → Floats → Matrix → Bool → Floats → Shape
+bakedAs words floats h row weights world there palette =
+    bakedPrimitive world (paletteIn there (now (palette .entry))) (now (weights .entry))
+    (primitiveOf (lentAs (now (words .entry)) (now (floats .entry)) [] [] h) row)
+
+-- all primitives of a mesh
+abbrev pub bakedMesh : Words → Floats → Header → Part → Floats → Matrix → Bool → Floats → Output
+bakedMesh words floats h m weights world there palette =
+    outputOf (map (bakedPrimitive world (paletteIn there (now (palette .entry))) (now (weights .entry)))
+    (primitivesIn (lentAs (now (words .entry)) (now (floats .entry)) [] [] h) m))
 
 -- ---- how many floats: three a position or normal, four a tangent
 

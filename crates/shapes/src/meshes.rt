@@ -9,13 +9,8 @@ use tables::Header;
 use tables::PrimitiveRow;
 use tracks::Part;
 ghost use mathlib.Core.Path.{_≡_};
-ghost use mathlib.Core.Bool.{true};
-ghost use mathlib.Core.List.{[], map};
 ghost use lib.ListN.{length};
-ghost use Rattle.model.specs.Bake.{bakedPrimitive, outputOf};
-ghost use Rattle.tables.specs.Decoded.{primitiveOf};
-ghost use Rattle.checks.specs.Drawn.{lentAs};
-ghost use Rattle.shapes.specs.Rest.{paletteIn, primitivesIn, rowLengths, plusLengths, lengthsBelow, AtMost};
+ghost use Rattle.shapes.specs.Rest.{bakedAs, bakedMesh, rowLengths, plusLengths, lengthsBelow, AtMost};
 ghost use Rattle.shapes.specs.Rest.{RowFits, Drawable, PutsAt, PutsOut};
 
 // Puts out a primitive of so many floats, from the given places on.
@@ -37,8 +32,7 @@ fn put_primitive(
     requires { ⌜ (n ≡ rowLengths row) × RowFits (now floats) row
         × AtMost (plusLengths at n) (length (now positions)) (length (now normals)) (length (now tangents))
         × AtMost (plusLengths at n) 8589934592 8589934592 8589934592 ⌝ }
-    ensures { λ _. ⌜ PutsAt (bakedPrimitive (world .m) (paletteIn «has_palette» (now (palette .entry)))
-        (now (weights .entry)) (primitiveOf (lentAs (now (words .entry)) (now (floats .entry)) [] [] h) row)) at n
+    ensures { λ _. ⌜ PutsAt (bakedAs words floats h row weights (world .m) «has_palette» palette) at n
         positions normals tangents ⌝ }
 {
     let a = at.positions;
@@ -80,9 +74,8 @@ pub fn write_mesh(
     requires { ⌜ Drawable (now words) (now floats) (h .meshes .primitives) part
         × AtMost (lengthsBelow (now words) (h .meshes .primitives) part (part .count)) (length (now positions))
         (length (now normals)) (length (now tangents)) ⌝ }
-    ensures { λ _. ⌜ PutsOut (outputOf (map (bakedPrimitive (world .m)
-        (paletteIn «has_palette» (now (palette .entry))) (now (weights .entry)))
-        (primitivesIn (lentAs (now (words .entry)) (now (floats .entry)) [] [] h) part))) positions normals tangents ⌝ }
+    ensures { λ _. ⌜ PutsOut (bakedMesh words floats h part weights (world .m) «has_palette» palette)
+        positions normals tangents ⌝ }
 {
     let mut at = none();
     let mut k = 0usize;

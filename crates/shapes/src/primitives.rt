@@ -3,16 +3,13 @@ use scene::Mat4;
 use tables::Header;
 use tables::PrimitiveRow;
 use tracks::Part;
-ghost use mathlib.Core.Path.{_≡_};
-ghost use mathlib.Core.List.{List, []};
 ghost use Rattle.borrowed.specs.InPlace.{InPlace};
 ghost use Rattle.model.specs.Morph.{withTargets};
 ghost use Rattle.model.specs.Attributes.{shapeOf};
-ghost use Rattle.model.specs.Bake.{placedShape, bakedPrimitive};
-ghost use Rattle.tables.specs.Decoded.{slotIn, primitiveOf};
-ghost use Rattle.checks.specs.Drawn.{lentAs};
+ghost use Rattle.model.specs.Bake.{placedShape};
+ghost use Rattle.tables.specs.Decoded.{slotIn};
 ghost use Rattle.mesh.specs.Lent.{targetsIn};
-ghost use Rattle.shapes.specs.Rest.{attributesAt, Sized, ShapedAs, paletteIn};
+ghost use Rattle.shapes.specs.Rest.{attributesAt, Sized, ShapedAs, paletteIn, bakedAs};
 
 // With a palette, and joints and weights present: skinned; otherwise transformed.
 fn place_shape(
@@ -90,8 +87,7 @@ pub(crate) fn bake_primitive(
     tangents: &mut [f32],
 )
     requires { ⌜ Sized (now floats) row (now positions) (now normals) (now tangents) ⌝ }
-    ensures { λ _. ⌜ ShapedAs (bakedPrimitive (world .m) (paletteIn «has_palette» (now (palette .entry)))
-        (now (weights .entry)) (primitiveOf (lentAs (now (words .entry)) (now (floats .entry)) [] [] h) row))
+    ensures { λ _. ⌜ ShapedAs (bakedAs words floats h row weights (world .m) «has_palette» palette)
         (now (floats .entry)) row positions normals tangents ⌝ }
 {
     blend_primitive(words, floats, h, row, weights, positions, normals, tangents);

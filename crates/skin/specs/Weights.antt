@@ -8,11 +8,12 @@ use lib.Ieee.{Float}
 use Rattle.model.specs.Lists.{isSome}
 use Rattle.model.specs.Scene.{meshAt}
 use Rattle.model.specs.Skin.{effectiveWeights}
+use Rattle.model.specs.SkinCalls.{weightsNumber, weightsOf}
 use Rattle.tables.specs.declared.Header.{Header}
 use Rattle.tables.specs.declared.NodeRow.{NodeRow}
 use Rattle.tables.specs.declared.MeshRow.{MeshRow}
-use Rattle.tables.specs.Decoded.{nodeOf, meshOf, sceneOf}
-use Rattle.checks.specs.Drawn.{lentAs}
+use Rattle.tables.specs.Decoded.{Lent, nodeOf, meshOf, sceneOf}
+use Rattle.checks.specs.Drawn.{lentAs, tablesNumber}
 
 -- the effective weights of the node and the mesh that two rows say
 pub record Effective (nodeWeights meshWeights : List Float) (node : NodeRow) (mesh : MeshRow)
@@ -25,3 +26,10 @@ pub record Effective (nodeWeights meshWeights : List Float) (node : NodeRow) (me
 pub record Meshed (words : List ℕ) (h : Header) (i : ℕ) (r : Bool) : Type 0 where
   pub told : (floats nodeWeights meshWeights : List Float)
       → r ≡ isSome (meshAt (sceneOf (lentAs words floats nodeWeights meshWeights h)) i)
+
+-- the number of the call for the weights of node i's mesh, and the weights, none where it is refused
+abbrev pub weightsNumberFor : Lent → ℕ → ℕ
+weightsNumberFor l i = weightsNumber (tablesNumber l) (sceneOf l) i
+
+abbrev pub weightsFor : Lent → ℕ → List Float
+weightsFor l i = weightsOf (tablesNumber l) (sceneOf l) i

@@ -4,10 +4,8 @@ use tables::Header;
 use tables::MeshRow;
 use tables::NodeRow;
 ghost use mathlib.Core.Path.{_≡_};
-ghost use Rattle.model.specs.SkinCalls.{weightsNumber, weightsOf};
-ghost use Rattle.tables.specs.Decoded.{sceneOf};
-ghost use Rattle.checks.specs.Drawn.{sceneLent, tablesNumber};
-ghost use Rattle.skin.specs.Weights.{Meshed, Effective};
+ghost use Rattle.checks.specs.Drawn.{sceneLent};
+ghost use Rattle.skin.specs.Weights.{Meshed, Effective, weightsNumberFor, weightsFor};
 
 // The weights that a node and its mesh say: the node's own, if it has any, otherwise the mesh's.
 pub fn weights_of<'a>(
@@ -53,8 +51,7 @@ pub fn weights_number(
     h: Header,
     node: u32,
 ) -> u32
-    ensures { λ r. ⌜ r ≡ weightsNumber (tablesNumber (sceneLent words floats «node_weights» «mesh_weights» h))
-        (sceneOf (sceneLent words floats «node_weights» «mesh_weights» h)) node ⌝ }
+    ensures { λ r. ⌜ r ≡ weightsNumberFor (sceneLent words floats «node_weights» «mesh_weights» h) node ⌝ }
 {
     let drawn = checks::tables_number(words, floats, node_weights, mesh_weights, h);
     if drawn != 0 {
@@ -75,8 +72,7 @@ pub fn effective_morph_weights<'a>(
     h: Header,
     node: u32,
 ) -> &'a [f32]
-    ensures { λ r. ⌜ now r ≡ weightsOf (tablesNumber (sceneLent words floats «node_weights» «mesh_weights» h))
-        (sceneOf (sceneLent words floats «node_weights» «mesh_weights» h)) node ⌝ }
+    ensures { λ r. ⌜ now r ≡ weightsFor (sceneLent words floats «node_weights» «mesh_weights» h) node ⌝ }
 {
     if weights_number(words, floats, node_weights, mesh_weights, h, node) != 0 {
         return &node_weights[0..0];

@@ -32,6 +32,9 @@ scratchOf walk marks slots codes floats =
       worldSlots = min (length codes) (length floats / 16);
     }
 
+abbrev pub placeNumberFor : Lent → Scratch → ℕ
+placeNumberFor l scratch = placeNumber (tablesNumber l) (sceneOf l) scratch
+
 -- the pose of each of n nodes, as the slots say it
 abbrev pub posesIn : List ℕ → List Float → ℕ → List Pose
 posesIn marks slots n = tabulate n (poseIn marks slots)
@@ -52,9 +55,7 @@ pub record Run (s : Scene) (local : ℕ → Matrix) (walkRoom codeSlots : Change
 pub record NodesPlaced (l : Lent) (marks : List ℕ) (slots : List Float) (walkRoom codeSlots : Change (List ℕ))
     (worldSlots : Change (List Float)) (a : Answer) : Type 0 where
   pub number :
-      a .number
-      ≡ placeNumber (tablesNumber l) (sceneOf l)
-      (scratchOf (walkRoom .from) marks slots (codeSlots .from) (worldSlots .from))
+      a .number ≡ placeNumberFor l (scratchOf (walkRoom .from) marks slots (codeSlots .from) (worldSlots .from))
   pub entries : a .taken ≡ pick (eqb (a .number) 0) (taken (sceneOf l)) 0
   pub walk :
       walkRoom .to ≡ pick (eqb (a .number) 0) (replicate (length (walkRoom .from)) 0) (walkRoom .from)

@@ -2,10 +2,9 @@ use refusals::SHORT_SCRATCH;
 use tables::Graph;
 use tables::Header;
 ghost use mathlib.Core.Path.{_≡_};
-ghost use Rattle.model.specs.Refusals.{placeNumber};
-ghost use Rattle.tables.specs.Decoded.{sceneOf};
-ghost use Rattle.checks.specs.Drawn.{sceneLent, tablesNumber};
+ghost use Rattle.checks.specs.Drawn.{sceneLent};
 ghost use Rattle.worlds.specs.Rooms.{walkIsShort, shortIn};
+ghost use Rattle.worlds.specs.Placed.{placeNumberFor};
 
 // Whether there is room for fewer entries than roots and children.
 fn walk_is_short(words: &[u32], graph: Graph, walk: usize) -> bool
@@ -46,8 +45,7 @@ pub(crate) fn place_number(
     poses: usize,
     worlds: usize,
 ) -> u32
-    ensures { λ r. ⌜ r ≡ placeNumber (tablesNumber (sceneLent words floats «node_weights» «mesh_weights» h))
-        (sceneOf (sceneLent words floats «node_weights» «mesh_weights» h))
+    ensures { λ r. ⌜ r ≡ placeNumberFor (sceneLent words floats «node_weights» «mesh_weights» h)
         (record { walkRoom = walk; poseSlots = poses; worldSlots = worlds }) ⌝ }
 {
     let drawn = checks::tables_number(words, floats, node_weights, mesh_weights, h);

@@ -5,9 +5,7 @@ use tracks::Part;
 ghost use mathlib.Core.Path.{_≡_};
 ghost use lib.ListN.{length, getD, replicate};
 ghost use Rattle.float.specs.F32.{zero32};
-ghost use Rattle.model.specs.Lists.{foldl};
-ghost use Rattle.worlds.specs.Slots.{placedIn};
-ghost use Rattle.worlds.specs.Posed.{localIn};
+ghost use Rattle.worlds.specs.Posed.{localIn, placedInOrder};
 
 // The local matrix of node i in a pose.
 fn local_matrix(
@@ -45,9 +43,8 @@ pub(crate) fn place_worlds(
     order: &[u32],
     worlds: &mut [f32],
 )
-    ensures { λ _. ⌜ now (worlds .exit) ≡ foldl (placedIn
-        (localIn (now (words .entry)) (now (floats .entry)) nodes (now (marks .entry)) (now (slots .entry)))
-        (now (places .entry))) (now (worlds .entry)) (now (order .entry)) ⌝ }
+    ensures { λ _. ⌜ now (worlds .exit) ≡ placedInOrder words floats nodes marks slots places order
+        (now (worlds .entry)) ⌝ }
 {
     let mut k = 0;
     while k < order.len() {
@@ -70,9 +67,8 @@ pub(crate) fn write_worlds(
     order: &[u32],
     worlds: &mut [f32],
 )
-    ensures { λ _. ⌜ now (worlds .exit) ≡ foldl (placedIn
-        (localIn (now (words .entry)) (now (floats .entry)) nodes (now (marks .entry)) (now (slots .entry)))
-        (now (places .entry))) (replicate (length (now (worlds .entry))) zero32) (now (order .entry)) ⌝ }
+    ensures { λ _. ⌜ now (worlds .exit) ≡ placedInOrder words floats nodes marks slots places order
+        (replicate (length (now (worlds .entry))) zero32) ⌝ }
 {
     tables::wipe_floats(worlds);
     place_worlds(words, floats, nodes, marks, slots, places, order, worlds);

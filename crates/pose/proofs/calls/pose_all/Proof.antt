@@ -15,8 +15,10 @@ drive-all-requires c κs =
     let d = c .before .before .before .before .before .before in
     let s = d .before .before .before .before .before .before .before in
     let a = s .args in
-    let e = d .clear .ensures in
-    (s .pre .0, s .pre .1, s .pre .2, omega (arith, s .pre .3), s .pre .4, cleared-words (a .n) (now (a .marks)) _ (e .0), cleared-floats (a .n) (now (a .slots)) _ (e .1))
+    let e = d .clear .ensures in (
+      (s .pre .0, s .pre .1, s .pre .2, omega (arith, s .pre .3), s .pre .4),
+      (cleared-words (a .n) (now (a .marks)) _ (e .0), cleared-floats (a .n) (now (a .slots)) _ (e .1)),
+    )
 
 returns : tie.Need-returns
 returns c =

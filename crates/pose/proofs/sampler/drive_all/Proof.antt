@@ -38,8 +38,8 @@ loop-holds c =
       search needs,
       refl,
       refl,
-      s .pre .5 ∙ first-words (a .time) (a .n) g (now (a .marks)),
-      s .pre .6 ∙ first-floats (a .time) (a .n) g (now (a .slots)),
+      s .pre .1 .0 ∙ first-words (a .time) (a .n) g (now (a .marks)),
+      s .pre .1 .1 ∙ first-floats (a .time) (a .n) g (now (a .slots)),
     )
 
 drive-requires : tie.Need-drive-requires Inv-loop μ-loop
@@ -50,9 +50,9 @@ drive-requires c κs =
     let a = s .args in
     let e = sym (r .channel-row .ensures) in
     let k = l .loop .k in (
-      subst (λ (x : ChannelRow). tableNumber (now (a .floats)) (trackFor x) ≡ 0) e (s .pre .0 k (omega arith)),
-      s .pre .1,
-      subst (λ (x : ChannelRow). outOfLine (a .n) (channelIn (now (a .floats)) x) ≡ false) e (s .pre .2 k (omega arith)),
+      subst (λ (x : ChannelRow). tableNumber (now (a .floats)) (trackFor x) ≡ 0) e (s .pre .0 .0 k (omega arith)),
+      s .pre .0 .1,
+      subst (λ (x : ChannelRow). outOfLine (a .n) (channelIn (now (a .floats)) x) ≡ false) e (s .pre .0 .2 k (omega arith)),
       omega arith,
       omega arith,
     )
@@ -65,7 +65,7 @@ loop-again c =
     let s = l .before .before .before .before .before in
     let a = s .args in
     let g : ℕ → Track = λ i. channelIn (now (a .floats)) (channelRow (now (a .words)) (a .channels) i) in
-    let m = channel-more (a .time) (a .n) (l .loop .k) g (now (a .marks)) (now (a .slots)) (s .pre .3) _ _ _ _ _
+    let m = channel-more (a .time) (a .n) (l .loop .k) g (now (a .marks)) (now (a .slots)) (s .pre .0 .3) _ _ _ _ _
     (ap (channelIn (now (a .floats))) (r .channel-row .ensures)) (l .loop .inv .4) (l .loop .inv .5) (d .drive .ensures) in
     (refl, omega arith, search needs, search needs, m .0, m .1)
 
