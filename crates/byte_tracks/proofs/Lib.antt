@@ -1,1 +1,1 @@
-pub mod NumberLaws
+pub mod WeightRoom

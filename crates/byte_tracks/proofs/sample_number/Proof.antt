@@ -14,8 +14,8 @@ use Rattle.model.proofs.Numbers.{sample-drawn, sample-tests}
 use Rattle.wire.specs.Bytes.{floatsIn}
 use Rattle.wire.proofs.Reading as reading
 use Rattle.tracks.specs.Tracks.{trackIn, tableNumber, strideIn}
-use Rattle.tracks.proofs.Drawn.{Clear, clear, stride-is, no-stride, some-stride}
-use Rattle.byte_tracks.proofs.NumberLaws.{roomy}
+use Rattle.tracks.proofs.Drawn.{clear, stride-is, no-stride, some-stride}
+use Rattle.byte_tracks.proofs.WeightRoom.{roomy}
 use Rattle.byte_tracks.proofs.sample_number.Statement.{statement}
 use Rattle.byte_tracks.proofs.sample_number.Tie as tie
 
@@ -87,7 +87,8 @@ last c l e =
     let is-even = some-stride tr _ (stride-told (s .before)) (s .if3 .left) in
     let line = ap inLine (sym (c .before .keys-of .ensures)) ∙ sym (c .keys-in-line .ensures) ∙ e in
     sym (sample-tests tr (a .time) weightLimit _ false true l false (none d)
-    (sym (n .before .is-nan .ensures) ∙ n .if2 .left) is-even line (roomy floats (a .t) (a .time) (none d) is-even))
+    (sym (n .before .is-nan .ensures) ∙ n .if2 .left) is-even line
+    (roomy tr (a .time) (clear floats (a .t) (none d) .within) is-even))
 
 returns-4 : tie.Need-returns-4
 returns-4 c = last (c .before) false (not-true _ (c .if4 .taken))
