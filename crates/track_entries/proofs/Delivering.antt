@@ -8,6 +8,8 @@ use lib.Ieee.{Float, binary32, ofBits}
 use lib.ListN.{length, take, drop}
 use lib.Seq.{length-take-le}
 use Rattle.model.specs.Limits.{weightLimit}
+use Rattle.model.specs.Scene as scene
+use Rattle.model.specs.Refusals.{trackOverLimit}
 use Rattle.model.specs.Calls.{Sampled, sampled}
 use Rattle.wire.specs.Bytes.{floatsIn, bytesOf, writtenAs, WroteBytes}
 use Rattle.wire.proofs.Reading.{count}
@@ -16,7 +18,7 @@ use Rattle.scene.specs.Values.{vec3, quat}
 use Rattle.scene.specs.declared.Vec3.{Vec3}
 use Rattle.scene.specs.declared.Quat.{Quat}
 use Rattle.animation.specs.Values.{answerOf}
-use Rattle.tracks.specs.Tracks.{keysFit, valuesFit, trackIn}
+use Rattle.tracks.specs.Tracks.{keysFit, valuesFit}
 use Rattle.tracks.specs.declared.Track.{Track}
 use Rattle.animation.specs.declared.SampledValue.{SampledValue}
 use Rattle.animation.specs.declared.SampledValue.the-variants as sampledValue
@@ -24,14 +26,16 @@ use Rattle.tables.specs.declared.ChannelRow.{ChannelRow}
 use Rattle.tables.specs.Tags.{trackFor}
 use Rattle.row_checks.specs.Bounds.{tagsKnown}
 use Rattle.track_entries.specs.declared.floats.Told.{Told}
-use Rattle.track_entries.specs.Bytes.{decodedNumber, sampledInBytes, sampledForBytes, DeliveredBytes}
-use Rattle.track_entries.proofs.Decoding.{none-over, refused-with, decoded-draws}
+use Rattle.track_entries.specs.Bytes.{Decoded, sampledWith, sampledInBytes, sampledForBytes}
+use Rattle.track_entries.specs.Bytes.{DeliveredBytes, DeliveredWithRoom}
+use Rattle.track_entries.proofs.Decoding.{two-stands, bytes-draw, refused}
 use Rattle.track_entries.proofs.Naming.{by-name, without-name}
 use Rattle.track_entries.proofs.Rooms.{Alike, weights-fit, sampled-alike}
 
 -- ---- an answer, by its variant
 
-counted : (weights : List Float) (a : SampledValue) (m : ℕ) → a ≡ sampledValue.Scalar m → answerOf a weights .weights ≡ m
+counted : (weights : List Float) (a : SampledValue) (m : ℕ) → a ≡ sampledValue.Scalar m
+    → answerOf a weights .weights ≡ m
 counted weights a m e = ap (λ (x : SampledValue). answerOf x weights .weights) e
 
 pub weights-inside : (weights : List Float) (a : SampledValue) (m : ℕ) → a ≡ sampledValue.Scalar m
@@ -43,22 +47,35 @@ module _ (weights : List Float) (a : SampledValue) (lentValue lentOut : List ℕ
       → DeliveredBytes (answerOf b weights) lentValue leftValue lentOut leftOut told
       → DeliveredBytes (answerOf a weights) lentValue leftValue lentOut leftOut told
   from b leftValue leftOut told e d =
-      subst (λ (x : SampledValue). DeliveredBytes (answerOf x weights) lentValue leftValue lentOut leftOut told) (sym e) d
+      subst (λ (x : SampledValue). DeliveredBytes (answerOf x weights) lentValue leftValue lentOut leftOut told)
+      (sym e) d
 
   module _ (left : List ℕ) (n : ℕ) where
-    pub wrote-vec3 : (v : Vec3) → a ≡ sampledValue.Vec3 v → length lentValue ≡ 16 → WroteBytes (vec3 v) lentValue left n
+    pub wrote-vec3 : (v : Vec3) → a ≡ sampledValue.Vec3 v → length lentValue ≡ 16
+        → WroteBytes (vec3 v) lentValue left n
         → DeliveredBytes (answerOf a weights) lentValue left lentOut lentOut (record { number = 0; count = 0 })
     unfolding writtenAs
     wrote-vec3 v e l w =
         from (sampledValue.Vec3 v) left lentOut _ e
-        (record { number = refl; count = refl; value = all-written (vec3 v) lentValue left n w (omega arith) .1; weights = refl })
+        (record {
+          number = refl;
+          count = refl;
+          value = all-written (vec3 v) lentValue left n w (omega arith) .1;
+          weights = refl;
+        })
 
-    pub wrote-quat : (q : Quat) → a ≡ sampledValue.Quat q → length lentValue ≡ 16 → WroteBytes (quat q) lentValue left n
+    pub wrote-quat : (q : Quat) → a ≡ sampledValue.Quat q → length lentValue ≡ 16
+        → WroteBytes (quat q) lentValue left n
         → DeliveredBytes (answerOf a weights) lentValue left lentOut lentOut (record { number = 0; count = 0 })
     unfolding writtenAs
     wrote-quat q e l w =
         from (sampledValue.Quat q) left lentOut _ e
-        (record { number = refl; count = refl; value = all-written (quat q) lentValue left n w (omega arith) .1; weights = refl })
+        (record {
+          number = refl;
+          count = refl;
+          value = all-written (quat q) lentValue left n w (omega arith) .1;
+          weights = refl;
+        })
 
     pub wrote-weights : (m : ℕ) → a ≡ sampledValue.Scalar m
         → (answerOf a weights .weights ≤ length weights) × (4 * answerOf a weights .weights ≤ length lentOut)
@@ -80,12 +97,14 @@ module _ (weights : List Float) (a : SampledValue) (lentValue lentOut : List ℕ
       → DeliveredBytes (answerOf a weights) lentValue lentValue lentOut lentOut (record { number = m; count = 0 })
   unfolding writtenAs
   wrote-nothing m e =
-      from (sampledValue.Refused m) lentValue lentOut _ e (record { number = refl; count = refl; value = refl; weights = refl })
+      from (sampledValue.Refused m) lentValue lentOut _ e
+      (record { number = refl; count = refl; value = refl; weights = refl })
 
 -- ---- the answer of a call
 
 delivered-alike : (s r : Sampled) (lentValue leftValue lentOut leftOut : List ℕ) (told : Told) → Alike s r
-    → DeliveredBytes r lentValue leftValue lentOut leftOut told → DeliveredBytes s lentValue leftValue lentOut leftOut told
+    → DeliveredBytes r lentValue leftValue lentOut leftOut told
+    → DeliveredBytes s lentValue leftValue lentOut leftOut told
 delivered-alike s r lentValue leftValue lentOut leftOut told a d = record {
   number = d .number ∙ sym (a .number);
   count = d .count ∙ sym (a .weights);
@@ -93,44 +112,59 @@ delivered-alike s r lentValue leftValue lentOut leftOut told a d = record {
   weights = d .weights ∙ (λ j. bytesOf (sym (a .written) j) ++ drop (4 * sym (a .weights) j) lentOut);
 }
 
--- sampled in a slice for as many weights as `out` has room for or a frame can have
-module _ (table : List ℕ) (t : Track) (time : Float) (weights : List Float) (lentOut : List ℕ)
-    (room : length weights ≡ min (length lentOut / 4) weightLimit)
-    (a : SampledValue) (left : List Float) (e : answerOf a left ≡ sampledInBytes table t time weights) where
-  pub enough : length left ≡ length weights → (answerOf a left .weights ≤ length left) × (4 * answerOf a left .weights ≤ length lentOut)
+-- a track that draws `first` before 10, sampled in a slice for as many weights as `out` has room for or a frame can
+-- have
+module _ (t : scene.Track) (time : Float) (first : ℕ) (within : first ≡ 0 → trackOverLimit t ≡ false)
+    (weights : List Float) (lentOut : List ℕ) (fits : length weights ≡ min (length lentOut / 4) weightLimit)
+    (a : SampledValue) (left : List Float) (e : answerOf a left ≡ sampled first t time weights) where
+  pub enough : length left ≡ length weights
+      → (answerOf a left .weights ≤ length left) × (4 * answerOf a left .weights ≤ length lentOut)
   enough l =
       let told = ap (λ (s : Sampled). s .weights) e in
-      let fit = weights-fit (trackIn (floatsIn table) t) time (decodedNumber (floatsIn table) t) weights in
+      let fit = weights-fit t time first weights in
       (omega (arith, told, fit), omega (arith, told, fit))
 
-  pub as-sampled : (lentValue leftValue leftOut : List ℕ) (told : Told) → DeliveredBytes (answerOf a left) lentValue leftValue lentOut leftOut told
-      → DeliveredBytes (sampledInBytes table t time (floatsIn lentOut)) lentValue leftValue lentOut leftOut told
+  pub as-sampled : (lentValue leftValue leftOut : List ℕ) (told : Told)
+      → DeliveredBytes (answerOf a left) lentValue leftValue lentOut leftOut told
+      → DeliveredBytes (sampled first t time (floatsIn lentOut)) lentValue leftValue lentOut leftOut told
   as-sampled lentValue leftValue leftOut told d =
       delivered-alike _ _ lentValue leftValue lentOut leftOut told
-      (sampled-alike (trackIn (floatsIn table) t) time (decodedNumber (floatsIn table) t) (floatsIn lentOut) weights
-      (none-over (floatsIn table) t) (room ∙ ap (λ (n : ℕ). min n weightLimit) (sym (count (ofBits binary32) lentOut))))
+      (sampled-alike t time first (floatsIn lentOut) weights within
+      (fits ∙ ap (λ (n : ℕ). min n weightLimit) (sym (count (ofBits binary32) lentOut))))
       (subst (λ (s : Sampled). DeliveredBytes s lentValue leftValue lentOut leftOut told) e d)
 
 -- a track that was handed in as u, and is `row`, at a time that was handed in as a bit pattern
-module _ (table : List ℕ) (row u : ChannelRow) (e : row ≡ u) (at : Float) (lentValue lentOut : List ℕ) where
+module _ (table : List ℕ) (row u : ChannelRow) (e : row ≡ u) (at : Float) (room : List Float)
+    (lentValue lentOut : List ℕ) where
   abbrev inside : Bool
   inside = keysFit (length table / 4) (trackFor row) && valuesFit (length table / 4) (trackFor row)
 
-  pub as-handed : (not (tagsKnown row) && inside) ≡ false → (t : Track) → t ≡ trackFor row → (time : Float) → time ≡ at
-      → (leftValue leftOut : List ℕ) (told : Told)
-      → DeliveredBytes (sampledInBytes table t time (floatsIn lentOut)) lentValue leftValue lentOut leftOut told
-      → DeliveredBytes (sampledForBytes table u at (floatsIn lentOut)) lentValue leftValue lentOut leftOut told
-  as-handed h t f time p leftValue leftOut told d =
-      subst (λ (s : Sampled). DeliveredBytes s lentValue leftValue lentOut leftOut told)
-      (by-name (λ g tr. sampled g tr at (floatsIn lentOut)) (floatsIn table) (decodedNumber (floatsIn table)) row u e
-      inside (decoded-draws table (trackFor row)) h t f _ (λ j. sampledInBytes table t (p j) (floatsIn lentOut)))
+  abbrev call : ℕ → scene.Track → Decoded
+  call g tr = sampledWith g tr at (floatsIn table) room (floatsIn lentOut)
+
+  pub as-handed : (not (tagsKnown row) && inside) ≡ false → (t : Track) → t ≡ trackFor row
+      → (time : Float) → time ≡ at → (left : List Float) (leftValue leftOut : List ℕ) (told : Told)
+      → DeliveredWithRoom (sampledInBytes table t time room (floatsIn lentOut)) left
+      lentValue leftValue lentOut leftOut told
+      → DeliveredWithRoom (sampledForBytes table u at room (floatsIn lentOut)) left
+      lentValue leftValue lentOut leftOut told
+  as-handed h t f time p left leftValue leftOut told d =
+      subst (λ (s : Decoded). DeliveredWithRoom s left lentValue leftValue lentOut leftOut told)
+      (by-name call (floatsIn table) row u e inside (bytes-draw table (trackFor row)) h t f _
+      (λ j. sampledInBytes table t (p j) room (floatsIn lentOut)))
       d
 
+  abbrev two : Told
+  two = record { number = 2; count = 0 }
+
   pub not-handed : (not (tagsKnown row) && inside) ≡ true
-      → DeliveredBytes (sampledForBytes table u at (floatsIn lentOut)) lentValue lentValue lentOut lentOut
-      (record { number = 2; count = 0 })
+      → DeliveredWithRoom (sampledForBytes table u at room (floatsIn lentOut)) room lentValue lentValue lentOut lentOut
+      two
   not-handed h =
-      subst (λ (s : Sampled). DeliveredBytes s lentValue lentValue lentOut lentOut (record { number = 2; count = 0 }))
-      (without-name (λ g tr. sampled g tr at (floatsIn lentOut)) (floatsIn table) (decodedNumber (floatsIn table))
-      row u e inside (decoded-draws table (trackFor row)) h _ (λ tr. refused-with tr at (floatsIn lentOut) 2 1 refl))
-      (wrote-nothing (floatsIn lentOut) (sampledValue.Refused 2) lentValue lentOut 2 refl)
+      subst (λ (s : Decoded). DeliveredWithRoom s room lentValue lentValue lentOut lentOut two)
+      (without-name call (floatsIn table) row u e inside (bytes-draw table (trackFor row)) h _
+      (λ tr. refused tr at (floatsIn table) room (floatsIn lentOut) _ 2 (two-stands tr at _) (λ z. omega arith)))
+      (record {
+        answer = wrote-nothing (floatsIn lentOut) (sampledValue.Refused 2) lentValue lentOut 2 refl;
+        room = refl;
+      })

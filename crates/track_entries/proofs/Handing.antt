@@ -31,15 +31,22 @@ use Rattle.track_entries.proofs.Naming.{table-draws, by-name, without-n
 module _ (lent : List Float) (h : length lent ≡ 4) (x y z : Float) where
   pub over-three : set (set (set lent 0 x) 1 y) 2 z ≡ x ∷ y ∷ z ∷ drop 3 lent
   unfolding entriesFrom
-  over-three = ap (λ (l : List Float). set (set (set l 0 x) 1 y) 2 z) (by-entries nan lent 4 h) ∙ ap (λ (l : List Float). x ∷ y ∷ z ∷ drop 3 l) (sym (by-entries nan lent 4 h))
+  over-three =
+      ap (λ (l : List Float). set (set (set l 0 x) 1 y) 2 z) (by-entries nan lent 4 h)
+      ∙ ap (λ (l : List Float). x ∷ y ∷ z ∷ drop 3 l) (sym (by-entries nan lent 4 h))
 
   pub over-four : (w : Float) → set (set (set (set lent 0 x) 1 y) 2 z) 3 w ≡ x ∷ y ∷ z ∷ w ∷ drop 4 lent
   unfolding entriesFrom
-  over-four w = ap (λ (l : List Float). set (set (set (set l 0 x) 1 y) 2 z) 3 w) (by-entries nan lent 4 h) ∙ ap (λ (l : List Float). x ∷ y ∷ z ∷ w ∷ drop 4 l) (sym (by-entries nan lent 4 h))
+  over-four w =
+      ap (λ (l : List Float). set (set (set (set l 0 x) 1 y) 2 z) 3 w) (by-entries nan lent 4 h)
+      ∙ ap (λ (l : List Float). x ∷ y ∷ z ∷ w ∷ drop 4 l) (sym (by-entries nan lent 4 h))
 
 -- what is told and left is what was sampled
 module _ (s : Sampled) (lent slice : List Float) (a : SampledValue) (e : answerOf a slice ≡ s) where
-  left : (b : SampledValue) (array : List Float) → a ≡ b → array ≡ answerOf b slice .value ++ drop (length (answerOf b slice .value)) lent → Delivered s lent array (answerOf b slice .slice) (record { number = answerOf b slice .number; count = answerOf b slice .weights })
+  left : (b : SampledValue) (array : List Float) → a ≡ b
+      → array ≡ answerOf b slice .value ++ drop (length (answerOf b slice .value)) lent
+      → Delivered s lent array (answerOf b slice .slice)
+      (record { number = answerOf b slice .number; count = answerOf b slice .weights })
   left b array f p =
       let g : answerOf b slice ≡ s = ap (λ (x : SampledValue). answerOf x slice) (sym f) ∙ e in
       record {
@@ -49,16 +56,20 @@ module _ (s : Sampled) (lent slice : List Float) (a : SampledValue) (e : answerO
         weights = ap (λ (x : Sampled). x .slice) g;
       }
 
-  pub left-vec3 : (v : Vec3) (array : List Float) → a ≡ sampledValue.Vec3 v → array ≡ vec3 v ++ drop 3 lent → Delivered s lent array slice (record { number = 0; count = 0 })
+  pub left-vec3 : (v : Vec3) (array : List Float) → a ≡ sampledValue.Vec3 v → array ≡ vec3 v ++ drop 3 lent
+      → Delivered s lent array slice (record { number = 0; count = 0 })
   left-vec3 v array f p = left (sampledValue.Vec3 v) array f p
 
-  pub left-quat : (q : Quat) (array : List Float) → a ≡ sampledValue.Quat q → array ≡ quat q ++ drop 4 lent → Delivered s lent array slice (record { number = 0; count = 0 })
+  pub left-quat : (q : Quat) (array : List Float) → a ≡ sampledValue.Quat q → array ≡ quat q ++ drop 4 lent
+      → Delivered s lent array slice (record { number = 0; count = 0 })
   left-quat q array f p = left (sampledValue.Quat q) array f p
 
-  pub left-weights : (n : ℕ) → a ≡ sampledValue.Scalar n → Delivered s lent lent slice (record { number = 0; count = n })
+  pub left-weights : (n : ℕ) → a ≡ sampledValue.Scalar n
+      → Delivered s lent lent slice (record { number = 0; count = n })
   left-weights n f = left (sampledValue.Scalar n) lent f refl
 
-  pub left-refused : (n : ℕ) → a ≡ sampledValue.Refused n → Delivered s lent lent slice (record { number = n; count = 0 })
+  pub left-refused : (n : ℕ) → a ≡ sampledValue.Refused n
+      → Delivered s lent lent slice (record { number = n; count = 0 })
   left-refused n f = left (sampledValue.Refused n) lent f refl
 
 -- ---- the answers
@@ -80,13 +91,13 @@ module _ (floats : List Float) (row u : ChannelRow) (e : row ≡ u) (q : Bool) (
   named : {X : Type 0} (call : ℕ → scene.Track → X) → (not (tagsKnown row) && inside) ≡ false → (t : Track)
       → t ≡ trackFor row → (x : X) → x ≡ call (tableNumber floats t) (trackIn floats t)
       → x ≡ call (numberFor floats u) (trackIn floats (trackFor u))
-  named call = by-name call floats (tableNumber floats) row u e inside (table-draws floats (trackFor row))
+  named call = by-name call floats row u e inside (table-draws floats (trackFor row))
 
   pub no-frame : (not (tagsKnown row) && inside) ≡ true
       → Framed floats u q k lent lent (record { number = 2; count = 0 })
   no-frame h =
       copied-as 2 _ (frameFor floats u q k) _ lent lent 2 0
-      (without-name (λ g tr. frameNumber g tr q k) floats (tableNumber floats) row u e inside
+      (without-name (λ g tr. frameNumber g tr q k) floats row u e inside
       (table-draws floats (trackFor row)) h 2 (λ tr. sym (frame-drawn tr q k 2 (omega arith))))
       refl
       (refused (frameFor floats u q k) lent 2 (λ z. omega arith))

@@ -13,7 +13,7 @@ use Rattle.tracks.specs.declared.Track.{Track}
 use Rattle.tables.specs.declared.ChannelRow.{ChannelRow}
 use Rattle.tables.specs.Tags.{trackFor}
 use Rattle.row_checks.specs.Bounds.{tagsKnown}
-use Rattle.track_entries.specs.Tracks.{trackNumber}
+use Rattle.track_entries.specs.Tracks.{trackNumber, numberFor}
 
 -- ---- whether a track that lies in a table of n floats is such a one
 module _ (n : ℕ) (r : ChannelRow) where
@@ -54,11 +54,11 @@ pub table-draws : (floats : List Float) (t : Track)
 unfolding tableNumber
 table-draws floats t = record { over = trackOverLimit (trackIn floats t); number = refl }
 
--- ---- a call on a track that was handed in as u, is `row`, and is read as t; what the table draws for a track
-module _ {X : Type 0} (call : ℕ → scene.Track → X) (floats : List Float) (draws : Track → ℕ) (row u : ChannelRow)
-    (e : row ≡ u) (inside : Bool) (d : Draws inside (draws (trackFor row))) where
+-- ---- a call on a track that was handed in as u, is `row`, and is read as t
+module _ {X : Type 0} (call : ℕ → scene.Track → X) (floats : List Float) (row u : ChannelRow) (e : row ≡ u)
+    (inside : Bool) (d : Draws inside (tableNumber floats (trackFor row))) where
   abbrev asked : ChannelRow → X
-  asked r = call (trackNumber (draws (trackFor r)) r) (trackIn floats (trackFor r))
+  asked r = call (numberFor floats r) (trackIn floats (trackFor r))
 
   -- with the number that `row` draws
   drawn : (g : ℕ) → trackNumber (pick inside (pick (d .over) 2 0) 1) row ≡ g
@@ -69,12 +69,12 @@ module _ {X : Type 0} (call : ℕ → scene.Track → X) (floats : List Float) (
       ∙ ap asked e
 
   pub by-name : (not (tagsKnown row) && inside) ≡ false → (t : Track) → t ≡ trackFor row
-      → (x : X) → x ≡ call (draws t) (trackIn floats t) → x ≡ asked u
+      → (x : X) → x ≡ call (tableNumber floats t) (trackIn floats t) → x ≡ asked u
   unfolding trackNumber firstOf
   by-name h t f x p =
       p
-      ∙ (λ j. call (draws (f j)) (trackIn floats (f j)))
-      ∙ drawn (draws (trackFor row)) (known (tagsKnown row) inside (d .over) h ∙ sym (d .number))
+      ∙ (λ j. call (tableNumber floats (f j)) (trackIn floats (f j)))
+      ∙ drawn (tableNumber floats (trackFor row)) (known (tagsKnown row) inside (d .over) h ∙ sym (d .number))
 
   pub without-name : (not (tagsKnown row) && inside) ≡ true → (x : X)
       → ((tr : scene.Track) → x ≡ call 2 tr) → x ≡ asked u

@@ -1,49 +1,75 @@
-// A track sampled in a table of bytes: little-endian floats, and a track's numbers as for a table of floats. Bytes past the
-// last whole float are not counted, and a NaN is written 7fc00000.
+// A track sampled in a table of bytes: little-endian floats, and a track's numbers as for a table of floats. The table
+// is decoded into lent room. Bytes past the last whole float are not counted, and a NaN is written 7fc00000.
 use crate::floats::Told;
 use crate::floats::is_unnamed;
 use crate::floats::row_for;
 use animation::SampledValue;
+use refusals::OVER_LIMIT;
+use refusals::SHORT_SCRATCH;
+use refusals::WEIGHT_LIMIT;
 use tracks::Track;
 ghost use mathlib.Core.Path.{_≡_};
 ghost use Prim.Native.Nat.{_/_, _*_, _≤_, min};
+ghost use lib.Dec.{ltb};
 ghost use lib.Ieee.{binary32, ofBits};
 ghost use lib.ListN.{length};
 ghost use Rattle.model.specs.Limits.{weightLimit};
+ghost use Rattle.model.specs.Bake.{written};
 ghost use Rattle.animation.specs.Values.{answerOf};
 ghost use Rattle.wire.specs.Bytes.{floatsIn};
+ghost use Rattle.tracks.specs.Tracks.{trackIn, tableNumber};
 ghost use Rattle.track_entries.specs.Tracks.{rowFor, sampledIn};
-ghost use Rattle.track_entries.specs.Bytes.{decodedLimit, sampledInBytes, sampledForBytes, DeliveredBytes};
+ghost use Rattle.track_entries.specs.Bytes.{firstNumber, sampledInBytes, sampledForBytes};
+ghost use Rattle.track_entries.specs.Bytes.{DeliveredBytes, SampledBytes};
 
-// The floats that the local array has room for.
-const DECODED: usize = 65536;
-// The most weights of a frame.
-const WEIGHTS: usize = 64;
-
-// The value of a track in a table that the local array has room for.
-fn sample_decoded(table: &[u8], t: Track, time: f32, weights: &mut [f32]) -> SampledValue
-    requires { ⌜ length (now table) / 4 ≤ decodedLimit ⌝ }
-    ensures { λ r. ⌜ answerOf r (now (weights .exit))
-        ≡ sampledIn (floatsIn (now (table .entry))) t time (now (weights .entry)) ⌝ }
+// The number as far as 6, with room to decode so many floats.
+fn first_number(table: &[u8], t: Track, time: f32, room: usize) -> u32
+    ensures { λ r. ⌜ r ≡ firstNumber (tableNumber (floatsIn (now (table .entry))) t)
+        (trackIn (floatsIn (now (table .entry))) t) time (ltb room (length (floatsIn (now (table .entry))))) ⌝ }
 {
-    let mut floats = [0.0f32; DECODED];
-    let n = wire::read_floats(table, &mut floats);
-    animation::sample(&floats[..n], t, time, weights)
+    let drawn = byte_tracks::sample_number(table, t, time);
+    if drawn != 0 {
+        return drawn;
+    }
+    if room < table.len() / 4 {
+        return SHORT_SCRATCH;
+    }
+    0
+}
+
+// The value of a track in a table that there is room to decode.
+fn sample_decoded(
+    table: &[u8],
+    t: Track,
+    time: f32,
+    room: &mut [f32],
+    weights: &mut [f32],
+) -> SampledValue
+    requires { ⌜ length (now table) / 4 ≤ length (now room) ⌝ }
+    ensures { λ r. ⌜ (answerOf r (now (weights .exit))
+        ≡ sampledIn (floatsIn (now (table .entry))) t time (now (weights .entry)))
+        × (now (room .exit) ≡ written (floatsIn (now (table .entry))) (now (room .entry))) ⌝ }
+{
+    let n = wire::read_floats(table, room);
+    animation::sample(&room[..n], t, time, weights)
 }
 
 // The value of a track in any table.
-fn sample_in(table: &[u8], t: Track, time: f32, weights: &mut [f32]) -> SampledValue
-    ensures { λ r. ⌜ answerOf r (now (weights .exit))
-        ≡ sampledInBytes (now (table .entry)) t time (now (weights .entry)) ⌝ }
+fn sample_in(
+    table: &[u8],
+    t: Track,
+    time: f32,
+    room: &mut [f32],
+    weights: &mut [f32],
+) -> SampledValue
+    ensures { λ r. ⌜ record { answer = answerOf r (now (weights .exit)); room = now (room .exit) }
+        ≡ sampledInBytes (now (table .entry)) t time (now (room .entry)) (now (weights .entry)) ⌝ }
 {
-    let n = table.len() / 4;
-    if n <= DECODED {
-        return sample_decoded(table, t, time, weights);
+    let number = first_number(table, t, time, room.len());
+    if number != 0 {
+        return SampledValue::Refused(number);
     }
-    if tracks::lies_in(n, t) {
-        return SampledValue::Refused(2);
-    }
-    SampledValue::Refused(1)
+    sample_decoded(table, t, time, room, weights)
 }
 
 // Writes a Vec3 or Quat to `value`, or so many of the weights to `out`, and tells number and count.
@@ -83,20 +109,22 @@ fn sample_over(
     table: &[u8],
     t: Track,
     time: f32,
+    room: &mut [f32],
     weights: &mut [f32],
     value: &mut [u8; 16],
     out: &mut [u8],
 ) -> Told
     requires { ⌜ length (now weights) ≡ min (length (now out) / 4) weightLimit ⌝ }
-    ensures { λ r. ⌜ DeliveredBytes (sampledInBytes (now (table .entry)) t time (floatsIn (now (out .entry))))
-        (now (value .entry)) (now (value .exit)) (now (out .entry)) (now (out .exit)) r ⌝ }
+    ensures { λ r. ⌜ SampledBytes (sampledInBytes (now (table .entry)) t time) room value out r ⌝ }
 {
-    let sampled = sample_in(table, t, time, weights);
+    let sampled = sample_in(table, t, time, room, weights);
     deliver(sampled, weights, value, out)
 }
 
 // The value of a track at the time with the given bit pattern. A Vec3 or Quat is written to the start of `value`, the
-// weights of a scalar track to the start of `out`, and these are counted; otherwise both stay as lent.
+// weights of a scalar track to the start of `out`, and these are counted; otherwise both stay as lent. The table is
+// decoded to the start of `room`, and 6 is answered where that has fewer floats; where 1 to 6 is answered it stays as
+// lent.
 #[no_mangle]
 pub extern "C" fn sample(
     table: &[u8],
@@ -107,13 +135,13 @@ pub extern "C" fn sample(
     values_at: usize,
     values_count: usize,
     time: u32,
+    room: &mut [f32],
     value: &mut [u8; 16],
     out: &mut [u8],
 ) -> Told
-    ensures { λ r. ⌜ DeliveredBytes (sampledForBytes (now (table .entry))
-        (rowFor kind interpolation «keys_at» «keys_count» «values_at» «values_count»)
-        (ofBits binary32 time) (floatsIn (now (out .entry))))
-        (now (value .entry)) (now (value .exit)) (now (out .entry)) (now (out .exit)) r ⌝ }
+    ensures { λ r. ⌜ SampledBytes (sampledForBytes (now (table .entry))
+        (rowFor kind interpolation «keys_at» «keys_count» «values_at» «values_count») (ofBits binary32 time))
+        room value out r ⌝ }
 {
     let row = row_for(
         kind,
@@ -125,13 +153,13 @@ pub extern "C" fn sample(
     );
     if is_unnamed(table.len() / 4, row) {
         return Told {
-            number: 2,
+            number: OVER_LIMIT,
             count: 0,
         };
     }
     let t = tables::track_of(row);
     let time = float::from_bits(time);
-    let mut weights = [0.0f32; WEIGHTS];
-    let room = wire::least(out.len() / 4, WEIGHTS);
-    sample_over(table, t, time, &mut weights[..room], value, out)
+    let mut weights = [0.0f32; WEIGHT_LIMIT];
+    let most = wire::least(out.len() / 4, WEIGHT_LIMIT);
+    sample_over(table, t, time, room, &mut weights[..most], value, out)
 }

@@ -8,4 +8,6 @@ returns : tie.Need-returns
 returns c = over-four (c .args .lent) (search needs) _ _ _ _
 
 pub quat-over-spec : {M : Type 1} → statement M
-quat-over-spec = tie.close (tie.spec (λ c. search needs) (λ c. search needs) (λ c. search needs) (λ c. search needs) returns)
+quat-over-spec =
+    tie.close
+    (tie.spec (λ c. search needs) (λ c. search needs) (λ c. search needs) (λ c. search needs) returns)

@@ -4,7 +4,6 @@ use Prim.Native.Nat.{ℕ}
 use borrow.Author.Needs.{needs}
 use Rattle.model.specs.Scene.{Track}
 use Rattle.model.specs.Calls.{sampled}
-use Rattle.tracks.specs.Tracks.{tableNumber}
 use Rattle.track_entries.proofs.Decoding.{refused-with}
 use Rattle.track_entries.proofs.Naming.{table-draws, by-name, without-name}
 use Rattle.track_entries.proofs.floats.sample_row.Statement.{statement}
@@ -15,7 +14,7 @@ returns c =
     let u = c .before in
     let a = u .before .before .before .args in
     without-name (λ (g : ℕ) (tr : Track). sampled g tr (a .time) (a .out .now)) (a .floats .now)
-    (tableNumber (a .floats .now)) (a .row) _ refl _ (table-draws _ _) (sym (u .is-unnamed .ensures) ∙ c .if1 .taken) _
+    (a .row) _ refl _ (table-draws _ _) (sym (u .is-unnamed .ensures) ∙ c .if1 .taken) _
     (λ tr. refused-with tr (a .time) (a .out .now) 2 1 refl)
 
 returns-2 : tie.Need-returns-2
@@ -25,7 +24,7 @@ returns-2 c =
     let u = t .before .before in
     let a = u .before .before .before .args in
     by-name (λ (g : ℕ) (tr : Track). sampled g tr (a .time) (a .out .now)) (a .floats .now)
-    (tableNumber (a .floats .now)) (a .row) _ refl _ (table-draws _ _)
+    (a .row) _ refl _ (table-draws _ _)
     (sym (u .is-unnamed .ensures) ∙ t .before .if1 .left) _ (t .track-of .ensures) _ (s .sample .ensures)
 
 pub sample-row-spec : {M : Type 1} → statement M
