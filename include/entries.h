@@ -127,13 +127,18 @@ Answer place_floats(const uint32_t *words, size_t words_len, const float *floats
                     size_t slots_len, uint32_t *walk, size_t walk_len, uint32_t *places, size_t places_len, float *worlds,
                     size_t worlds_len);
 
-/* The same on little-endian bytes: a NaN is written as 7fc00000, and bytes past the last whole word of a slice are not
-   counted. A scene of more than 32,768 words, or 65,536 floats in a slice, draws 1 where a table that the header names leaves
-   the words, otherwise 2. Of pose and world slots 1,024 are used, and of the walk room 18,432 words. */
+/* The same of a scene in little-endian bytes; bytes past the last whole word of a slice are not counted. The scene is decoded
+   into `word_room`, a word for each word, and `float_room`, a float for each float of `floats`, `node_weights` and
+   `mesh_weights` together; 6 where one is shorter. Codes and worlds are left in `codes` and `matrices`, as `place_floats`
+   leaves them, and once more as bytes in `places` and `worlds`, a NaN as 7fc00000; there are as many world slots as both
+   have. Accepted, the decoding room starts with the scene and is as lent past it. Answers 1, 2, 6 or 0; where it is not 0,
+   nothing is changed. */
 Answer place(const uint8_t *words, size_t words_len, const uint8_t *floats, size_t floats_len,
              const uint8_t *node_weights, size_t node_weights_len, const uint8_t *mesh_weights, size_t mesh_weights_len,
-             Header header, const uint8_t *marks, size_t marks_len, const uint8_t *slots, size_t slots_len, uint8_t *walk,
-             size_t walk_len, uint8_t *places, size_t places_len, uint8_t *worlds, size_t worlds_len);
+             Header header, uint32_t *word_room, size_t word_room_len, float *float_room, size_t float_room_len,
+             const uint32_t *marks, size_t marks_len, const float *slots, size_t slots_len, uint32_t *walk,
+             size_t walk_len, uint32_t *codes, size_t codes_len, float *matrices, size_t matrices_len, uint8_t *places,
+             size_t places_len, uint8_t *worlds, size_t worlds_len);
 
 /* The pose of every node at a time, in slots of four words and ten floats. The words mark translation, rotation and scale;
    the fourth is 1 + the channel that gives the morph weights, or 0. Floats that are not posed are 0. Answers 1, 2, 3, 5, 6
