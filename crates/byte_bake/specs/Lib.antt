@@ -1,1 +1,2 @@
 pub mod Baked
+pub mod Makers
