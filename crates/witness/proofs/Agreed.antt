@@ -21,10 +21,10 @@ of-each : {A : Type 0} (P : A → Type 0) (l : List A) {x : A} → List·Memᴰ 
 of-each P [] m h = absurd (List·Memᴰ·not-nil m)
 of-each P (y ∷ l) m h = ⊎-elim (λ e. subst P (sym e) (h .0)) (λ n. of-each P l n (h .1)) (List·Memᴰ·cases-cons m)
 
-abbrev entry : ℕ → Place → Entry
-entry i p = record { node = i; place = p }
+abbrev standing : ℕ → Place → Entry
+standing i p = record { node = i; place = p }
 
-ordered : order before ≡ entry 0 root ∷ entry 1 (below 0) ∷ entry 2 root ∷ entry 3 root ∷ []
+ordered : order before ≡ standing 0 root ∷ standing 1 (below 0) ∷ standing 2 root ∷ standing 3 root ∷ []
 unfolding order trace walk placedOf listed sumOf
 ordered = refl
 
@@ -41,9 +41,9 @@ below-none p e = let z : p ≡ 0 = cc in omega arith
 under : Each Under (order before)
 under = subst (Each Under) (sym ordered) (not-below, (below-none, (not-below, (not-below, tt))))
 
-own : (i a : ℕ) → i < 3 → OnPath (order before) i a → a < 3
-own i a h itself = h
-own i a h (up q m) = of-each Under (order before) m under a refl
+own-path : (i a : ℕ) → i < 3 → OnPath (order before) i a → a < 3
+own-path i a h itself = h
+own-path i a h (up q m) = of-each Under (order before) m under a refl
 
 -- ---- what is the same
 
@@ -55,7 +55,7 @@ motion (suc (suc zero)) h = record { base = refl; tracks = refl }
 motion (suc (suc (suc a))) h = absurd (omega arith)
 
 path : (i : ℕ) → i < 3 → SamePath before after i
-path i h a b p = motion a (own i a h p)
+path i h a b p = motion a (own-path i a h p)
 
 lists : (i : ℕ) → i < 4 → childrenAt before i ≡ childrenAt after i
 lists zero h = refl

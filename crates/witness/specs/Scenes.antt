@@ -25,19 +25,21 @@ four32 = f32 0x4080_0000
 abbrev pub vector : Float → Float → Float → Vector
 vector x y z = x ∷ y ∷ z ∷ []
 
--- a move along x, as a matrix and as parts
-abbrev pub moved : Float → Matrix
-moved x =
+-- a move along x, as a matrix
+abbrev pub shifted : Float → Matrix
+shifted x =
     one32 ∷ zero32 ∷ zero32 ∷ x
     ∷ zero32 ∷ one32 ∷ zero32 ∷ zero32
     ∷ zero32 ∷ zero32 ∷ one32 ∷ zero32
     ∷ zero32 ∷ zero32 ∷ zero32 ∷ one32 ∷ []
 
+-- the rotation that turns nothing
 abbrev pub still : Vector
 still = zero32 ∷ zero32 ∷ zero32 ∷ one32 ∷ []
 
-abbrev pub movedParts : Float → Transform
-movedParts x =
+-- a move along x, as parts
+abbrev pub shiftedParts : Float → Transform
+shiftedParts x =
     parts (record { translation = vector x zero32 zero32; rotation = still; scale = vector one32 one32 one32 })
 
 -- ---- what is the same in both
@@ -57,18 +59,18 @@ blade = record {
 }
 
 abbrev pub bones : Skeleton
-bones = record { joints = 1 ∷ []; inverseBinds = moved zero32 ∷ [] }
+bones = record { joints = 1 ∷ []; inverseBinds = shifted zero32 ∷ [] }
 
 abbrev pub stand : Node
-stand = record { base = matrix (moved two32); children = 1 ∷ []; mesh = none; skin = none; weights = none }
+stand = record { base = matrix (shifted two32); children = 1 ∷ []; mesh = none; skin = none; weights = none }
 
 abbrev pub joint : Node
-joint = record { base = movedParts zero32; children = []; mesh = none; skin = none; weights = none }
+joint = record { base = shiftedParts zero32; children = []; mesh = none; skin = none; weights = none }
 
 -- the asked node; mesh and skin have other numbers before and after
 abbrev pub asked : ℕ → ℕ → Node
 asked mesh skin =
-    record { base = movedParts zero32; children = []; mesh = some mesh; skin = some skin; weights = none }
+    record { base = shiftedParts zero32; children = []; mesh = some mesh; skin = some skin; weights = none }
 
 -- the joint moves by 2 along x in one second
 abbrev pub jointTrack : Track
@@ -93,22 +95,22 @@ askedTrack = record {
 
 -- ---- the other maker's, before and after
 
-abbrev pub bare : List Vector → Primitive
-bare l = record { positions = l; normals = none; tangents = none; joints = none; weights = none; targets = [] }
+abbrev pub unskinned : List Vector → Primitive
+unskinned l = record { positions = l; normals = none; tangents = none; joints = none; weights = none; targets = [] }
 
 abbrev pub theirMesh₁ : Mesh
-theirMesh₁ = record { primitives = bare (vector zero32 zero32 two32 ∷ []) ∷ []; weights = [] }
+theirMesh₁ = record { primitives = unskinned (vector zero32 zero32 two32 ∷ []) ∷ []; weights = [] }
 
 abbrev pub theirMesh₂ : Mesh
 theirMesh₂ =
-    record { primitives = bare (vector one32 one32 one32 ∷ vector two32 two32 two32 ∷ []) ∷ []; weights = [] }
+    record { primitives = unskinned (vector one32 one32 one32 ∷ vector two32 two32 two32 ∷ []) ∷ []; weights = [] }
 
 abbrev pub theirs₁ : Node
-theirs₁ = record { base = matrix (moved one32); children = []; mesh = some 1; skin = none; weights = none }
+theirs₁ = record { base = matrix (shifted one32); children = []; mesh = some 1; skin = none; weights = none }
 
 abbrev pub theirs₂ : Node
 theirs₂ =
-    record { base = movedParts two32; children = []; mesh = some 0; skin = some 0; weights = some (one32 ∷ []) }
+    record { base = shiftedParts two32; children = []; mesh = some 0; skin = some 0; weights = some (one32 ∷ []) }
 
 abbrev pub theirTrack₁ : Track
 theirTrack₁ = record {

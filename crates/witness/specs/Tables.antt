@@ -7,7 +7,7 @@ use Rattle.float.specs.F32.{zero32, one32}
 use Rattle.tracks.specs.declared.Part.{Part}
 use Rattle.tables.specs.Decoded.{Lent}
 use Rattle.bake.specs.Baked.{Room}
-use Rattle.witness.specs.Scenes.{vector, moved, still, two32}
+use Rattle.witness.specs.Scenes.{vector, shifted, still, two32}
 
 abbrev table : ℕ → ℕ → Part
 table at count = record { at = at; count = count }
@@ -22,10 +22,10 @@ ten x = vector x zero32 zero32 ++ still ++ vector one32 one32 one32
 -- 34 and 35 the asked node's, at 38 and 41 positions and weights, at 45 the inverse bind
 abbrev own : List Float
 own =
-    moved two32 ++ ten zero32
+    shifted two32 ++ ten zero32
     ++ (zero32 ∷ one32 ∷ []) ++ vector zero32 zero32 zero32 ++ vector two32 zero32 zero32
     ++ (zero32 ∷ []) ++ vector two32 two32 two32
-    ++ vector one32 zero32 zero32 ++ (one32 ∷ zero32 ∷ zero32 ∷ zero32 ∷ []) ++ moved zero32
+    ++ vector one32 zero32 zero32 ++ (one32 ∷ zero32 ∷ zero32 ∷ zero32 ∷ []) ++ shifted zero32
 
 -- ---- before: nodes first, and the own floats first
 
@@ -54,7 +54,7 @@ words₁ =
 abbrev pub lent₁ : Lent
 lent₁ = record {
   words = words₁;
-  floats = own ++ moved one32 ++ vector zero32 zero32 two32 ++ (zero32 ∷ one32 ∷ []);
+  floats = own ++ shifted one32 ++ vector zero32 zero32 two32 ++ (zero32 ∷ one32 ∷ []);
   nodeWeights = [];
   meshWeights = [];
   header = record {
