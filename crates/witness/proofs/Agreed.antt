@@ -11,7 +11,7 @@ use Rattle.model.specs.Scene.{Node, Track, Primitive, Mesh, Skin, Skeleton, Sce
 use Rattle.model.specs.Placing.{Place, root, below, Entry, listed, walk, placedOf, trace, order}
 use Rattle.model.specs.Agree.{OnPath, itself, up, SameMotion, SamePath, Each, Agree}
 use Rattle.tables.specs.Decoded.{sceneOf}
-use Rattle.witness.specs.Scenes.{jointTrack, blade, before, after, Apart}
+use Rattle.witness.specs.Scenes.{jointTrack, ourMesh, before, after, Apart}
 use Rattle.witness.specs.Tables.{lent₁, lent₂}
 use Rattle.witness.proofs.Decoded.{decoded₁, decoded₂}
 
@@ -91,7 +91,7 @@ scenes-apart = record {
   nodes = λ e. let z : _≡_ {A = ℕ} 1 0 = ap (λ (l : List Node). orElse (getD l 3 blank .mesh) 0) e in omega arith;
   base = λ e. let z : _≡_ {A = ℕ} 0 1 = cc in omega arith;
   tracks = λ e. let z : _≡_ {A = ℕ} 1 3 = ap (λ (l : List Track). getD l 0 jointTrack .target) e in omega arith;
-  meshes = λ e. let z : _≡_ {A = ℕ} 1 2 = ap (λ (l : List Mesh). vertices (getD l 0 blade)) e in omega arith;
+  meshes = λ e. let z : _≡_ {A = ℕ} 1 2 = ap (λ (l : List Mesh). vertices (getD l 0 ourMesh)) e in omega arith;
   skins = λ e. let z : _≡_ {A = ℕ} 1 2 = ap (λ (l : List Skin). length l) e in omega arith;
   skeletons = λ e. let z : _≡_ {A = ℕ} 1 2 = ap (λ (l : List Skeleton). length l) e in omega arith;
 }

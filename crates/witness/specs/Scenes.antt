@@ -45,8 +45,8 @@ shiftedParts x =
 -- ---- what is the same in both
 
 -- one vertex, which follows the first joint with its whole weight
-abbrev pub blade : Mesh
-blade = record {
+abbrev pub ourMesh : Mesh
+ourMesh = record {
   primitives = record {
     positions = vector one32 zero32 zero32 ∷ [];
     normals = none;
@@ -139,7 +139,7 @@ before = record {
   nodes = stand ∷ joint ∷ asked 0 0 ∷ theirs₁ ∷ [];
   roots = 0 ∷ 2 ∷ 3 ∷ [];
   tracks = jointTrack ∷ askedTrack ∷ theirTrack₁ ∷ [];
-  meshes = blade ∷ theirMesh₁ ∷ [];
+  meshes = ourMesh ∷ theirMesh₁ ∷ [];
   skins = record { skeleton = 0; root = none } ∷ [];
   skeletons = bones ∷ [];
 }
@@ -149,7 +149,7 @@ after = record {
   nodes = stand ∷ joint ∷ asked 1 1 ∷ theirs₂ ∷ [];
   roots = 0 ∷ 2 ∷ 3 ∷ [];
   tracks = theirTrack₂ ∷ jointTrack ∷ askedTrack ∷ [];
-  meshes = theirMesh₂ ∷ blade ∷ [];
+  meshes = theirMesh₂ ∷ ourMesh ∷ [];
   skins = record { skeleton = 0; root = none } ∷ record { skeleton = 1; root = some 0 } ∷ [];
   skeletons = record { joints = 3 ∷ []; inverseBinds = [] } ∷ bones ∷ [];
 }
