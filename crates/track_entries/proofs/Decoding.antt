@@ -27,7 +27,7 @@ use Rattle.tracks.proofs.Drawn.{clear}
 use Rattle.animation.specs.declared.SampledValue.the-variants as sampledValue
 use Rattle.byte_tracks.proofs.WeightRoom.{roomy}
 use Rattle.track_entries.specs.Tracks.{sampledIn}
-use Rattle.track_entries.specs.Bytes.{firstNumber, decodedOr, Decoded, sampledInBytes}
+use Rattle.track_entries.specs.Bytes.{firstNumber, firstInBytes, decodedOr, Decoded, sampledInBytes}
 use Rattle.track_entries.proofs.Naming.{Draws, table-draws}
 
 -- ---- the numbers as far as 6
@@ -80,8 +80,8 @@ module _ (table : List ℕ) (t : Track) (time : Float) (room : ℕ) where
   abbrev short : Bool
   short = ltb room (length floats)
 
-  abbrev pub first : ℕ
-  first = firstNumber (tableNumber floats t) (trackIn floats t) time short
+  abbrev first : ℕ
+  first = firstInBytes table t time room
 
   pub within : first ≡ 0 → trackOverLimit (trackIn floats t) ≡ false
   within z = clear floats t (none-drawn (trackIn floats t) time short (tableNumber floats t) z .0) .within
@@ -147,7 +147,7 @@ refused tr time floats room lent g (suc n) e d = λ j. record {
 
 -- none of them
 pub accepted : (table : List ℕ) (t : Track) (time : Float) (room left lent : List Float) (s : Sampled)
-    → first table t time (length room) ≡ 0
+    → firstInBytes table t time (length room) ≡ 0
     → (s ≡ sampledIn (floatsIn table) t time lent) × (left ≡ written (floatsIn table) room)
     → _≡_ {A = Decoded} (record { answer = s; room = left }) (sampledInBytes table t time room lent)
 accepted table t time room left lent s z d =

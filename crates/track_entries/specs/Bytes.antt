@@ -34,6 +34,12 @@ firstNumber tables t time short =
     ∷ record { applies = short; refusal = shortScratch }
     ∷ []))
 
+-- of a track in a table of bytes, with room to decode so many floats
+abbrev pub firstInBytes : List ℕ → Track → Float → ℕ → ℕ
+firstInBytes table t time room =
+    let floats = floatsIn table in
+    firstNumber (tableNumber floats t) (trackIn floats t) time (ltb room (length floats))
+
 -- the decoding room after a call that drew this number of those: where it is 0 the floats of the table stand at the
 -- start, past them and otherwise the room is as lent; so 10 leaves it as an accepted call does
 abbrev pub decodedOr : ℕ → List Float → List Float → List Float

@@ -10,22 +10,19 @@ use refusals::WEIGHT_LIMIT;
 use tracks::Track;
 ghost use mathlib.Core.Path.{_≡_};
 ghost use Prim.Native.Nat.{_/_, _*_, _≤_, min};
-ghost use lib.Dec.{ltb};
 ghost use lib.Ieee.{binary32, ofBits};
 ghost use lib.ListN.{length};
 ghost use Rattle.model.specs.Limits.{weightLimit};
 ghost use Rattle.model.specs.Bake.{written};
 ghost use Rattle.animation.specs.Values.{answerOf};
 ghost use Rattle.wire.specs.Bytes.{floatsIn};
-ghost use Rattle.tracks.specs.Tracks.{trackIn, tableNumber};
 ghost use Rattle.track_entries.specs.Tracks.{rowFor, sampledIn};
-ghost use Rattle.track_entries.specs.Bytes.{firstNumber, sampledInBytes, sampledForBytes};
+ghost use Rattle.track_entries.specs.Bytes.{firstInBytes, sampledInBytes, sampledForBytes};
 ghost use Rattle.track_entries.specs.Bytes.{DeliveredBytes, SampledBytes};
 
 // The number as far as 6, with room to decode so many floats.
 fn first_number(table: &[u8], t: Track, time: f32, room: usize) -> u32
-    ensures { λ r. ⌜ r ≡ firstNumber (tableNumber (floatsIn (now (table .entry))) t)
-        (trackIn (floatsIn (now (table .entry))) t) time (ltb room (length (floatsIn (now (table .entry))))) ⌝ }
+    ensures { λ r. ⌜ r ≡ firstInBytes (now (table .entry)) t time room ⌝ }
 {
     let drawn = byte_tracks::sample_number(table, t, time);
     if drawn != 0 {
