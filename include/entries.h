@@ -52,10 +52,10 @@ typedef struct {
 Told sample_floats(const float *floats, size_t floats_len, uint32_t kind, uint32_t interpolation, size_t keys_at,
                    size_t keys_count, size_t values_at, size_t values_count, float time, float value[4], float *out,
                    size_t out_len);
-/* The same on little-endian bytes: `time` is the bit pattern of a float, `value` and `out` take the bytes of floats, a NaN
-   as 7fc00000. Bytes past the last whole float of a slice are not counted. The table is decoded into `room`; where that
-   has fewer floats than the table, 6 is drawn. Where 0 or 10 is answered, the floats of the table stand at the start of
-   `room`, and past them it is as lent; where 1 to 6 is answered, all of it is as lent. */
+/* The same on little-endian bytes: `time` is the bit pattern of a float, `value` and `out` take the bytes of floats, a
+   NaN as 7fc00000. Bytes past the last whole float of a slice are not counted. The table is decoded into `room`; where
+   that has fewer floats than the table, 6 is drawn. Where 0 or 10 is answered, the floats of the table stand at the
+   start of `room`, and past them it is as lent; where 1 to 6 is answered, all of it is as lent. */
 Told sample(const uint8_t *table, size_t table_len, uint32_t kind, uint32_t interpolation, size_t keys_at,
             size_t keys_count, size_t values_at, size_t values_count, uint32_t time, float *room, size_t room_len,
             uint8_t value[16], uint8_t *out, size_t out_len);
