@@ -1,3 +1,4 @@
 pub mod OneRecord
 pub mod TableThere
 pub mod SceneLaws
+pub mod CallLaws

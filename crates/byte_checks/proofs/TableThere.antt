@@ -1,5 +1,5 @@
 -- A table that does not draw 1 lies in the words. Assumes nothing.
-use mathlib.Core.Path.{_≡_, refl, sym, ap, _∙_}
+use mathlib.Core.Path.{_≡_, refl, sym, ap, _∙_, subst}
 use mathlib.Core.Bool.{Bool, true, false}
 use mathlib.Core.List.{List}
 use Prim.Native.Nat.{ℕ, _/_}
@@ -12,8 +12,10 @@ use Rattle.tables.specs.declared.Header.{Header}
 use Rattle.row_checks.specs.declared.Sizes.{Sizes}
 use Rattle.row_checks.specs.Places.{fitsIn}
 use Rattle.checks.specs.declared.Table.{Table}
-use Rattle.checks.specs.Drawn.{drawn, tableOf, recordWords, countWithin, tableNumber, wholeNumber}
+use Rattle.checks.specs.Drawn.{drawn, tableOf, recordWords, countWithin, tableNumber, wholeNumber, tablesNumber}
+use Rattle.checks.proofs.Clearing.{checked}
 use Rattle.checks.proofs.Lowest.{one-first}
+use Rattle.lent_bytes.specs.Bytes.{lentIn}
 use Rattle.byte_checks.specs.Bytes.{TableThere}
 
 -- what draws 1 is not there
@@ -33,3 +35,10 @@ unfolding wholeNumber
 whole-there bytes floats s h k n e d =
     table-there bytes (tableOf h k) k _ refl
     (λ z. d (e ∙ sym (one-first _ _ (ap (λ (m : ℕ). tableNumber m (tableOf h k) k) (count (λ w. w) bytes) ∙ z))))
+
+-- and so do all tables of a scene that draws no number
+pub all-there : (words floats own mesh : List ℕ) (h : Header) → tablesNumber (lentIn words floats own mesh h) ≡ 0
+    → (k : Table) → TableThere words (tableOf h k) k
+all-there words floats own mesh h z k =
+    subst (λ (n : ℕ). fitsIn (tableOf h k) (recordWords k) n ≡ true) (count (λ w. w) words)
+    (checked (lentIn words floats own mesh h) z .tables k)

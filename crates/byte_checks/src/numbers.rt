@@ -27,7 +27,7 @@ fn whole_number(words: &[u8], s: Sizes, h: Header, k: Table) -> u32
 }
 
 // The child entries of all nodes, as far as one above their limit.
-fn child_entries(words: &[u8], nodes: Part) -> usize
+pub(crate) fn child_entries(words: &[u8], nodes: Part) -> usize
     requires { ⌜ TableThere (now words) nodes table.Nodes ⌝ }
     ensures { λ r. ⌜ r ≡ cappedEntries (wordsIn (now (words .entry))) nodes ⌝ }
 {

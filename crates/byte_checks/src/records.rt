@@ -2,12 +2,13 @@
 use checks::Table;
 use row_checks::Sizes;
 use tables::ChannelRow;
+use tables::NodeRow;
 use tracks::Part;
 ghost use mathlib.Core.Path.{_≡_};
 ghost use Prim.Native.Nat.{_+_, _*_};
 ghost use Rattle.model.specs.Lists.{part};
 ghost use Rattle.wire.specs.Bytes.{wordsIn};
-ghost use Rattle.tables.specs.Records.{channelRow};
+ghost use Rattle.tables.specs.Records.{nodeRow, channelRow};
 ghost use Rattle.checks.specs.declared.Table.the-variants as table;
 ghost use Rattle.checks.specs.Drawn.{ByCount, lowestBelow, rowNumber, recordWords, childCount};
 ghost use Rattle.byte_checks.specs.Bytes.{TableThere, RecordThere};
@@ -35,14 +36,22 @@ fn row_number(words: &[u8], s: Sizes, t: Part, k: Table, i: usize) -> u32
     checks::row_number(&row[..n], s, tables::alone(), k, 0)
 }
 
+// Record i of the nodes.
+pub(crate) fn node_row(words: &[u8], nodes: Part, i: usize) -> NodeRow
+    requires { ⌜ RecordThere (now words) nodes table.Nodes i ⌝ }
+    ensures { λ r. ⌜ r ≡ nodeRow (wordsIn (now (words .entry))) nodes i ⌝ }
+{
+    let mut row = [0u32; 16];
+    let n = wire::read_words(record_bytes(words, nodes, Table::Nodes, i), &mut row);
+    tables::node_row(&row[..n], tables::alone(), 0)
+}
+
 // The child entries of node i.
 pub(crate) fn child_count(words: &[u8], nodes: Part, i: usize) -> usize
     requires { ⌜ RecordThere (now words) nodes table.Nodes i ⌝ }
     ensures { λ r. ⌜ r ≡ childCount (wordsIn (now (words .entry))) nodes i ⌝ }
 {
-    let mut row = [0u32; 16];
-    let n = wire::read_words(record_bytes(words, nodes, Table::Nodes, i), &mut row);
-    let node = tables::node_row(&row[..n], tables::alone(), 0);
+    let node = node_row(words, nodes, i);
     let children = node.children;
     children.count
 }

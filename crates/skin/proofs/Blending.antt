@@ -1,6 +1,6 @@
 -- The weights that rows say are the model's. Assumes nothing.
 use mathlib.Core.Path.{_≡_, refl, sym, ap, _∙_}
-use mathlib.Core.Bool.{Bool, true, false, not, false≢true}
+use mathlib.Core.Bool.{Bool, true, false, not, _&&_, false≢true}
 use mathlib.Core.List.{List, [], _∷_}
 use mathlib.Core.Option.{Option, none, some}
 use Prim.Native.Nat.{ℕ, zero, suc, _≤_, _<_}
@@ -22,6 +22,7 @@ use Rattle.tables.specs.Decoded.{Lent, nodeOf, meshOf, sceneOf}
 use Rattle.tables.proofs.Decoding.{node-count, node-at, mesh-at, no-mesh}
 use Rattle.tables.proofs.Naming.{is-there, not-there}
 use Rattle.checks.specs.Drawn.{tablesNumber}
+use Rattle.skin.specs.Weights.{namesMesh}
 
 -- ---- own weights before the mesh's
 module _ (mark : ℕ) (own : List Float) (mesh : Mesh) where
@@ -67,6 +68,17 @@ module _ (l : Lent) (i : ℕ) where
       go : (b : Bool) → ltb m (l .header .meshes .meshes .count) ≡ b → b ≡ isSome (getElem? (sceneOf l .meshes) m)
       go true h = sym (ap isSome (mesh-at l m (ltb-true _ _ h)))
       go false h = sym (ap isSome (no-mesh l m (ltb-false _ _ h)))
+
+  -- a node has a mesh where its row names one
+  pub mesh-by-row : (row : NodeRow) → row ≡ nodeRow (l .words) (l .header .graph .nodes) i
+      → i < l .header .graph .nodes .count
+      → namesMesh row (l .header) ≡ isSome (meshAt (sceneOf l) i)
+  mesh-by-row row e b = go (row .mesh .mark) refl
+    where
+      go : (m : ℕ) → row .mesh .mark ≡ m
+          → (isMarked m && ltb (row .mesh .id) (l .header .meshes .meshes .count)) ≡ isSome (meshAt (sceneOf l) i)
+      go zero z = sym (ap isSome (mesh-none row e b z))
+      go (suc m) z = mesh-there (row .mesh .id) ∙ sym (ap isSome (mesh-named row e b (λ q. omega (arith, z, q))))
 
   -- what the rows say of a node that has a mesh
   pub has-mesh : isSome (meshAt (sceneOf l) i) ≡ true → (row : NodeRow) → row ≡ nodeRow (l .words) (l .header .graph .nodes) i

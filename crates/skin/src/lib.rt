@@ -13,6 +13,7 @@ pub use palette::palette_count;
 pub use palette::write_palette;
 pub use weights::effective_morph_weights;
 pub use weights::has_mesh;
+pub use weights::row_has_mesh;
 pub use weights::weights_number;
 pub use weights::weights_of;
 

@@ -5,7 +5,7 @@ use tables::MeshRow;
 use tables::NodeRow;
 ghost use mathlib.Core.Path.{_≡_};
 ghost use Rattle.checks.specs.Drawn.{sceneLent};
-ghost use Rattle.skin.specs.Weights.{Meshed, Effective, weightsNumberFor, weightsFor};
+ghost use Rattle.skin.specs.Weights.{namesMesh, Meshed, Effective, weightsNumberFor, weightsFor};
 
 // The weights that a node and its mesh say: the node's own, if it has any, otherwise the mesh's.
 pub fn weights_of<'a>(
@@ -26,6 +26,16 @@ pub fn weights_of<'a>(
     tables::floats_in(mesh_weights, mesh.weights, 1)
 }
 
+// Whether the row of a node names a mesh.
+pub fn row_has_mesh(row: NodeRow, h: Header) -> bool
+    ensures { λ r. ⌜ r ≡ namesMesh row h ⌝ }
+{
+    if tables::is_marked(row.mesh.mark) {
+        return wide(row.mesh.id) < h.meshes.meshes.count;
+    }
+    false
+}
+
 // Whether a node has a mesh.
 pub fn has_mesh(words: &[u32], h: Header, node: u32) -> bool
     ensures { λ r. ⌜ Meshed (now (words .entry)) h node r ⌝ }
@@ -35,11 +45,7 @@ pub fn has_mesh(words: &[u32], h: Header, node: u32) -> bool
     if nodes.count <= i {
         return false;
     }
-    let row = tables::node_row(words, nodes, i);
-    if row.mesh.mark == 0 {
-        return false;
-    }
-    wide(row.mesh.id) < h.meshes.meshes.count
+    row_has_mesh(tables::node_row(words, nodes, i), h)
 }
 
 // The number of a call for the weights of a node's mesh.

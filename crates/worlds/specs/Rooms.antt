@@ -6,11 +6,13 @@ use lib.Dec.{ltb}
 use Rattle.tables.specs.declared.Graph.{Graph}
 use Rattle.checks.specs.Drawn.{cappedEntries}
 
--- walk room below roots and child entries; of tables that draw no number these are those of the scene
--- (proofs/Answering.antt `short-is`)
-abbrev pub walkIsShort : List ℕ → Graph → ℕ → Bool
-walkIsShort words graph walk = ltb walk (graph .roots .count + cappedEntries words (graph .nodes))
+-- so many child entries: walk room below roots and child entries, or fewer pose or world slots than nodes (scope,
+-- "Numbers when a piece is turned down", 6)
+abbrev pub shortFor : ℕ → Graph → ℕ → ℕ → ℕ → Bool
+shortFor children graph walk poses worlds =
+    ltb walk (graph .roots .count + children) || ltb poses (graph .nodes .count) || ltb worlds (graph .nodes .count)
 
+-- with the child entries of the tables; where these draw no number they are those of the scene
+-- (proofs/Answering.antt `short-is`)
 abbrev pub shortIn : List ℕ → Graph → ℕ → ℕ → ℕ → Bool
-shortIn words graph walk poses worlds =
-    walkIsShort words graph walk || ltb poses (graph .nodes .count) || ltb worlds (graph .nodes .count)
+shortIn words graph walk poses worlds = shortFor (cappedEntries words (graph .nodes)) graph walk poses worlds

@@ -17,6 +17,7 @@ mod posing;
 mod slots;
 
 pub use numbers::is_short;
+pub use numbers::is_short_for;
 
 // A refusal number, or 0, and how many entries were taken.
 #[repr(C)]

@@ -2,36 +2,47 @@ use refusals::SHORT_SCRATCH;
 use tables::Graph;
 use tables::Header;
 ghost use mathlib.Core.Path.{_≡_};
+ghost use Prim.Native.Nat.{_+_};
+ghost use lib.Dec.{ltb};
 ghost use Rattle.checks.specs.Drawn.{sceneLent};
-ghost use Rattle.worlds.specs.Rooms.{walkIsShort, shortIn};
+ghost use Rattle.worlds.specs.Rooms.{shortFor, shortIn};
 ghost use Rattle.worlds.specs.Placed.{placeNumberFor};
 
 // Whether there is room for fewer entries than roots and children.
-fn walk_is_short(words: &[u32], graph: Graph, walk: usize) -> bool
-    ensures { λ r. ⌜ r ≡ walkIsShort (now (words .entry)) graph walk ⌝ }
+fn walk_is_short(roots: usize, children: usize, walk: usize) -> bool
+    ensures { λ r. ⌜ r ≡ ltb walk (roots + children) ⌝ }
 {
-    let roots = graph.roots.count;
     if walk < roots {
         return true;
     }
-    if walk - roots < checks::child_entries(words, graph.nodes) {
-        return true;
-    }
-    false
+    walk - roots < children
 }
 
-// Whether the walk room or the slots are too few.
-pub fn is_short(words: &[u32], graph: Graph, walk: usize, poses: usize, worlds: usize) -> bool
-    ensures { λ r. ⌜ r ≡ shortIn (now (words .entry)) graph walk poses worlds ⌝ }
+// Whether the walk room or the slots are too few for a listing with so many child entries.
+pub fn is_short_for(children: usize, graph: Graph, walk: usize, poses: usize, worlds: usize) -> bool
+    ensures { λ r. ⌜ r ≡ shortFor children graph walk poses worlds ⌝ }
 {
     let n = graph.nodes.count;
-    if walk_is_short(words, graph, walk) {
+    if walk_is_short(graph.roots.count, children, walk) {
         return true;
     }
     if poses < n {
         return true;
     }
     worlds < n
+}
+
+// Whether they are too few for the listing of the tables.
+pub fn is_short(words: &[u32], graph: Graph, walk: usize, poses: usize, worlds: usize) -> bool
+    ensures { λ r. ⌜ r ≡ shortIn (now (words .entry)) graph walk poses worlds ⌝ }
+{
+    is_short_for(
+        checks::child_entries(words, graph.nodes),
+        graph,
+        walk,
+        poses,
+        worlds,
+    )
 }
 
 // The number of a placing from a given pose, with room for so many entries, poses and worlds.

@@ -1,20 +1,16 @@
 -- `byte_checks::lines::scene_number` meets its contract. Assumes nothing.
-use mathlib.Core.Path.{_≡_, refl, sym, subst, _∙_}
+use mathlib.Core.Path.{_≡_, refl, sym, _∙_}
 use mathlib.Core.Bool.{true, false}
-use Prim.Native.Nat.{ℕ}
 use borrow.Author.Needs.{needs}
 use denote.Ref.{now}
-use Rattle.wire.proofs.Reading.{count}
-use Rattle.tables.specs.Records.{channelWords}
 use Rattle.tables.specs.Decoded.{Lent}
-use Rattle.row_checks.specs.Places.{fitsIn}
 use Rattle.checks.specs.declared.Table.the-variants as table
 use Rattle.checks.specs.Drawn.{tablesNumber}
-use Rattle.checks.proofs.Clearing.{checked}
 use Rattle.pose.proofs.LineLaws.{in-counts}
 use Rattle.pose.proofs.CallLaws.{none-drawn}
 use Rattle.lent_bytes.specs.Bytes.{lentIn}
 use Rattle.byte_checks.proofs.SceneLaws.{scene-drawn, scene-tests}
+use Rattle.byte_checks.proofs.TableThere.{all-there}
 use Rattle.byte_checks.proofs.lines.scene_number.Statement.{statement}
 use Rattle.byte_checks.proofs.lines.scene_number.Tie as tie
 
@@ -45,11 +41,7 @@ some-out-of-line-requires : tie.Need-some-out-of-line-requires
 some-out-of-line-requires c κs =
     let d = c .before .before .before in
     let s = start (d .before) in
-    let there = checked (lent s) (none d) .tables table.Channels in
-    let all = count (λ w. w) (now (s .args .words)) in (
-      subst (λ (n : ℕ). fitsIn (s .args .h .channels) channelWords n ≡ true) all there,
-      none-drawn (lent s) (none d),
-    )
+    (all-there _ _ _ _ (s .args .h) (none d) table.Channels, none-drawn (lent s) (none d))
 
 returns-3 : tie.Need-returns-3
 returns-3 c =

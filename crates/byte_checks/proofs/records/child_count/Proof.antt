@@ -1,38 +1,12 @@
 -- `byte_checks::records::child_count` meets its contract. Assumes nothing.
-use mathlib.Core.Path.{sym, ap, _∙_}
+use mathlib.Core.Path.{ap}
 use borrow.Author.Needs.{needs}
-use denote.Ref.{now}
-use lib.Seq.{length-take-le}
-use Rattle.wire.specs.Bytes.{wordsIn}
 use Rattle.tables.specs.declared.NodeRow.{NodeRow}
-use Rattle.checks.specs.declared.Table.the-variants as table
-use Rattle.byte_checks.proofs.OneRecord.{decoded, node-alone}
 use Rattle.byte_checks.proofs.records.child_count.Statement.{statement}
 use Rattle.byte_checks.proofs.records.child_count.Tie as tie
 
-slice-aggregate-node-row : tie.Need-slice-aggregate-node-row
-slice-aggregate-node-row c = sym (length-take-le _ _ (search needs))
-
 returns : tie.Need-returns
-returns c =
-    let n = c .before in
-    let r = n .before .before .before .before in
-    let b = r .before .before in
-    let a = b .before .before .args in
-    ap (λ (row : NodeRow). row .children .count)
-    (n .node-row .ensures
-    ∙ node-alone (wordsIn (now (a .words))) (a .nodes) (a .i) _ _ (n .before .alone .ensures)
-    (decoded (now (a .words)) (a .nodes) table.Nodes (a .i) _ _ _ (b .record-bytes .ensures) (r .read-words .ensures)))
+returns c = ap (λ (row : NodeRow). row .children .count) (c .before .node-row .ensures)
 
 pub child-count-spec : {M : Type 1} → statement M
-child-count-spec =
-    tie.close
-    (tie.spec
-    (λ c κs. search needs)
-    (λ c. search needs)
-    (λ c κs. search needs)
-    (λ c. search needs)
-    slice-aggregate-node-row
-    (λ c κs. search needs)
-    (λ c κs. search needs)
-    returns)
+child-count-spec = tie.close (tie.spec (λ c κs. search needs) returns)

@@ -1,29 +1,16 @@
 -- `worlds::numbers::is_short` meets its contract. Assumes nothing.
-use mathlib.Core.Path.{sym, _∙_}
-use mathlib.Core.Bool.{_||_}
+use mathlib.Core.Path.{ap, _∙_}
+use Prim.Native.Nat.{ℕ}
 use borrow.Author.Needs.{needs}
-use borrow.Author.Tests.{lt-ltb, le-ltb}
-use lib.Dec.{ltb}
+use Rattle.worlds.specs.Rooms.{shortFor}
 use Rattle.worlds.proofs.numbers.is_short.Statement.{statement}
 use Rattle.worlds.proofs.numbers.is_short.Tie as tie
 
 returns : tie.Need-returns
 returns c =
     let a = c .before .before .before .args in
-    let n = a .graph .nodes .count in
-    sym (λ j. (sym (c .before .walk-is-short .ensures) ∙ c .if1 .taken) j || ltb (a .poses) n || ltb (a .worlds) n)
-
-returns-2 : tie.Need-returns-2
-returns-2 c =
-    let a = c .before .before .before .before .args in
-    let n = a .graph .nodes .count in
-    sym (λ j. (sym (c .before .before .walk-is-short .ensures) ∙ c .before .if1 .left) j || lt-ltb (a .poses) n (c .if2 .taken) j || ltb (a .worlds) n)
-
-returns-3 : tie.Need-returns-3
-returns-3 c =
-    let a = c .before .before .before .before .args in
-    let n = a .graph .nodes .count in
-    sym (λ j. (sym (c .before .before .walk-is-short .ensures) ∙ c .before .if1 .left) j || le-ltb (a .poses) n (c .if2 .left) j || ltb (a .worlds) n)
+    c .is-short-for .ensures
+    ∙ ap (λ (n : ℕ). shortFor n (a .graph) (a .walk) (a .poses) (a .worlds)) (c .before .child-entries .ensures)
 
 pub is-short-spec : {M : Type 1} → statement M
-is-short-spec = tie.close (tie.spec (λ c κs. search needs) returns returns-2 returns-3)
+is-short-spec = tie.close (tie.spec (λ c κs. search needs) (λ c κs. search needs) returns)

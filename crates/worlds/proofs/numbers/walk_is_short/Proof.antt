@@ -1,30 +1,26 @@
 -- `worlds::numbers::walk_is_short` meets its contract. Assumes nothing.
-use mathlib.Core.Path.{sym}
-use Prim.Native.Nat.{ℕ, _+_}
+use mathlib.Core.Path.{_≡_, refl, sym}
+use mathlib.Core.Bool.{Bool, true, false}
+use Prim.Native.Nat.{ℕ, _+_, _-_, _≤_}
 use native.Mathlib.Omega.{arith}
-use borrow.Author.Needs.{needs}
-use borrow.Author.Tests.{lt-ltb, le-ltb}
-use denote.Ref.{now}
-use Rattle.checks.specs.Drawn.{cappedEntries}
+use borrow.Author.Tests.{lt-ltb, le-ltb, ltb-true, ltb-false}
+use lib.Dec.{ltb}
 use Rattle.worlds.proofs.numbers.walk_is_short.Statement.{statement}
 use Rattle.worlds.proofs.numbers.walk_is_short.Tie as tie
 
--- the entries that the walk needs room for
-abbrev entries : tie.Start → ℕ
-entries s = let g = s .args .graph in g .roots .count + cappedEntries (now (s .args .words)) (g .nodes)
+-- what is left past the roots is below the children
+left-below : (walk roots children : ℕ) → roots ≤ walk → ltb (walk - roots) children ≡ ltb walk (roots + children)
+left-below walk roots children h = go (ltb (walk - roots) children) refl
+  where
+    go : (b : Bool) → ltb (walk - roots) children ≡ b → b ≡ ltb walk (roots + children)
+    go true e = sym (lt-ltb walk (roots + children) (omega (arith, ltb-true (walk - roots) children e)))
+    go false e = sym (le-ltb walk (roots + children) (omega (arith, ltb-false (walk - roots) children e)))
 
 returns : tie.Need-returns
-returns c = let s = c .before .before in sym (lt-ltb (s .args .walk) (entries s) (omega (arith, c .if1 .taken)))
+returns c = let a = c .before .args in sym (lt-ltb (a .walk) (a .roots + a .children) (omega (arith, c .if1 .taken)))
 
 returns-2 : tie.Need-returns-2
-returns-2 c =
-    let s = c .before .before .before .before in
-    sym (lt-ltb (s .args .walk) (entries s) (omega (arith, c .before .child-entries .ensures, c .before .before .if1 .left, c .if2 .taken)))
-
-returns-3 : tie.Need-returns-3
-returns-3 c =
-    let s = c .before .before .before .before in
-    sym (le-ltb (s .args .walk) (entries s) (omega (arith, c .before .child-entries .ensures, c .before .before .if1 .left, c .if2 .left)))
+returns-2 c = let a = c .before .args in left-below (a .walk) (a .roots) (a .children) (c .if1 .left)
 
 pub walk-is-short-spec : {M : Type 1} → statement M
-walk-is-short-spec = tie.close (tie.spec returns (λ c κs. search needs) returns-2 returns-3)
+walk-is-short-spec = tie.close (tie.spec returns returns-2)
