@@ -106,7 +106,10 @@ module _ (b : SceneBytes) (h : Header) (i : ℕ) (time : Float) (d : Decoding) (
     decoded = e ∙ sym (λ j. pick (eq-eqb (firstIn (drawnBy b d) (lentBy b h) i time (roomOf (c .from .scratch))) 0 (sym p ∙ none-number) j) (decodedTo b d) d);
   }
 
--- ---- of an equal scene
+-- ---- of an equal scene, or time
 
 pub same-lent : {l m : Lent} {i : ℕ} {time : Float} {c : Change Room} {o : Change ByteOutput} {a : Answer} → l ≡ m → BakedIn 0 l i time c o a → BakedIn 0 m i time c o a
 same-lent {i = i} {time = time} {c = c} {o = o} {a = a} e k = subst (λ (x : Lent). BakedIn 0 x i time c o a) e k
+
+pub same-time : {l : Lent} {i : ℕ} {t u : Float} {c : Change Room} {o : Change ByteOutput} {a : Answer} → t ≡ u → BakedIn 0 l i t c o a → BakedIn 0 l i u c o a
+same-time {l = l} {i = i} {c = c} {o = o} {a = a} e k = subst (λ (x : Float). BakedIn 0 l i x c o a) e k

@@ -28,7 +28,7 @@ use Rattle.bake.specs.declared.Answer.{Answer}
 use Rattle.bake.specs.Baked.{Room, answerOf}
 use Rattle.bake.specs.Makers.{NotRefusedEarly}
 use Rattle.bake.proofs.TablesRange.{tables-at-most-2}
-use Rattle.lent_bytes.specs.Bytes.{SceneBytes, Decoding, lentBy, drawnBy}
+use Rattle.lent_bytes.specs.Bytes.{SceneBytes, Decoding, countOf, lentBy, drawnBy}
 use Rattle.byte_checks.specs.Numbers.{earlyIn}
 use Rattle.byte_baking.specs.Output.{ByteOutput, withFloats}
 use Rattle.byte_baking.specs.Baked.{requestIn, outcomeIn, BakedIn}
@@ -65,7 +65,7 @@ module _ (b : SceneBytes) (h : Header) (i : ℕ) (time : Float) (d : Decoding) (
   bake-itself p =
       let l = lentBy b h in
       let e = earlyNumber (tablesNumber l) (sceneOf l) time (roomOf (r .scratch)) in
-      let low = lowest-low e (drawnBy b d) (early-le (tablesNumber l) (sceneOf l) time (roomOf (r .scratch)) (tables-at-most-2 l)) (drawn-low _ _) in
+      let low = lowest-low e (drawnBy b d) (early-le (tablesNumber l) (sceneOf l) time (roomOf (r .scratch)) (tables-at-most-2 l)) (drawn-low (ltb (length (d .words)) (length (b .words) / 4)) (ltb (length (d .floats)) (countOf (b .floats) (b .nodeWeights) (b .meshWeights)))) in
       let z = after-number (lowest e (drawnBy b d)) (sceneOf l) (requestIn i time r o) low p in
       λ j. model.bakedAfter (both-none e (drawnBy b d) z j) (sceneOf l) (requestIn i time r o)
 
