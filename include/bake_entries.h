@@ -1,6 +1,6 @@
-/* The C function of target/staticlib/libbake_entries.a (`rt staticlib bake_entries`). A slice is a pointer and a length.
-   Pointers of length 0 must not be null. Slices that are written must not overlap others. docs/TABLES.md says what a
-   header is, and lists the refusal numbers. */
+/* The C function of target/staticlib/libbake_entries.a (`rt staticlib bake_entries`). A slice is a pointer and a
+   length. Pointers of length 0 must not be null. Slices that are written must not overlap others. docs/TABLES.md says
+   what a header is, and lists the refusal numbers. */
 #ifndef BAKE_ENTRIES_H
 #define BAKE_ENTRIES_H
 
@@ -15,10 +15,10 @@ typedef struct {
     size_t taken;
 } BakeAnswer;
 
-/* The mesh of a node in the world at a time: blended, then skinned or transformed, its primitives one after the other at
-   the start of the outputs, of three floats a position or normal and four a tangent. Pose slots, walk room and worlds are
-   lent as for `sample_pose` and `place_floats`, and hold the pose and the placing after. Answers 1, 2, 3, 5 to 10 or 0;
-   where it is not 0, the outputs are as lent, and after 1 to 7 so is the rest. */
+/* The mesh of a node in the world at a time: blended, then skinned or transformed, its primitives one after the other
+   at the start of the outputs, of three floats a position or normal and four a tangent. Pose slots, walk room and
+   worlds are lent as for `sample_pose` and `place_floats`, and hold the pose and the placing after. Answers 1, 2, 3,
+   5 to 10 or 0; where it is not 0, the outputs are as lent, and after 1 to 7 so is the rest. */
 BakeAnswer bake_floats(const uint32_t *words, size_t words_len, const float *floats, size_t floats_len,
                        const float *node_weights, size_t node_weights_len, const float *mesh_weights,
                        size_t mesh_weights_len, Header header, uint32_t node, float time, uint32_t *marks,

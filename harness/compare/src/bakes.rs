@@ -36,6 +36,7 @@ const BAKED_NODES: u32 = 8;
 /// The word of a node that marks its mesh.
 const MESH_MARK: usize = 4;
 const ACCEPTED: u64 = 10_000;
+const SMALL_STACK: usize = 64 * 1_024;
 const NUMBERS: [u32; 9] = [1, 2, 3, 5, 6, 7, 8, 9, 10];
 const FEW_NODES: Sizes = Sizes {
     nodes: 4,
@@ -135,6 +136,9 @@ impl Comparison {
             for node in [0, 1] {
                 self.count(&case, node, case.lens(node));
             }
+            let is_baked = is_baked_in_small_stack(&case);
+            self.tally
+                .count(case.size(), is_baked, |_| String::from("on a small stack"));
         }
     }
 
@@ -210,6 +214,20 @@ impl Comparison {
         ];
         !all.contains(&false)
     }
+}
+
+/// Whether a bake, on numbers and on bytes, is accepted in the stack that
+/// include/entries.h names.
+fn is_baked_in_small_stack(case: &Case) -> bool {
+    let bake = || {
+        let lens = case.lens(0);
+        case.bake(0, lens).0.number == 0 && on_bytes::is_baked(case, 0, lens)
+    };
+    std::thread::scope(|scope| {
+        let thread = std::thread::Builder::new().stack_size(SMALL_STACK);
+        let thread = thread.spawn_scoped(scope, bake);
+        thread.is_ok_and(|thread| thread.join().unwrap_or(false))
+    })
 }
 
 /// Nodes, all where they are few, and ids that name none.

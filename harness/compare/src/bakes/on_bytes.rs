@@ -205,6 +205,16 @@ fn of_floats(case: &Case, node: u32, lens: Lens, lent: &Lent) -> Left {
     }
 }
 
+/// Whether a bake on bytes with just enough room is accepted.
+pub fn is_baked(case: &Case, node: u32, lens: Lens) -> bool {
+    let lent = Lent {
+        decoding: Decoding::enough(&case.lent),
+        floats: from_fn(|k| lens[SCRATCH + k]),
+        bytes: from_fn(|k| 4 * lens[SCRATCH + k]),
+    };
+    of_bytes(case, node, lens, &lent, [0; 4]).told.number == 0
+}
+
 /// The outputs may be longer.
 fn put_room(left: &BakeRoom, whole: &mut BakeRoom) {
     whole.walk.copy_from_slice(&left.walk);
