@@ -5,7 +5,6 @@ use mathlib.Core.Logic.{_⊎_, inl, inr}
 use mathlib.Core.List.{List}
 use mathlib.Core.Option.{Option, none, some}
 use Prim.Native.Nat.{ℕ, zero, suc}
-use native.Mathlib.Omega.{arith}
 use borrow.Author.Tests.{eq-eqb, ne-eqb}
 use lib.Ieee.{Float}
 use Rattle.borrowed.specs.Slices.{Change}
@@ -14,6 +13,7 @@ use Rattle.model.specs.Scene.{Scene, Mesh, meshAt}
 use Rattle.model.specs.Matrix.{Matrix}
 use Rattle.model.specs.Refusals.{lowest, earlyNumber}
 use Rattle.model.specs.Bake as model
+use Rattle.model.proofs.Numbers.{neither-drawn}
 use Rattle.wire.specs.Bytes.{writtenAs}
 use Rattle.tables.specs.declared.Header.{Header}
 use Rattle.tables.specs.Decoded.{Lent, sceneOf}
@@ -89,15 +89,12 @@ module _ (b : SceneBytes) (h : Header) (i : ℕ) (time : Float) (d : Decoding) (
 
 -- ---- past 7
 
-nothing-drawn : (e g m : ℕ) → lowest (lowest e g) m ≡ 0 → g ≡ 0
-nothing-drawn zero zero m q = refl
-nothing-drawn zero (suc g) m q = q
-nothing-drawn (suc e) g m q = absurd (omega (arith, q))
-
 module _ (b : SceneBytes) (h : Header) (i : ℕ) (time : Float) (d : Decoding) (c : Change Room) (o : Change ByteOutput) (n : ℕ) (p : n ≡ firstIn (drawnBy b d) (lentBy b h) i time (roomOf (c .from .scratch))) (none-number : n ≡ 0) where
   -- the room is long enough
   pub long-enough : drawnBy b d ≡ 0
-  long-enough = nothing-drawn (earlyNumber (tablesNumber (lentBy b h)) (sceneOf (lentBy b h)) time (roomOf (c .from .scratch))) (drawnBy b d) _ (sym p ∙ none-number)
+  long-enough =
+      let e = earlyNumber (tablesNumber (lentBy b h)) (sceneOf (lentBy b h)) time (roomOf (c .from .scratch)) in
+      neither-drawn e (drawnBy b d) (neither-drawn (lowest e (drawnBy b d)) _ (sym p ∙ none-number) .0) .1
 
   pub baked-bytes : (left : Decoding) (a : Answer) → left ≡ decodedTo b d → BakedIn 0 (lentBy b h) i time c o a
       → BakedBytes b h i time (record { from = d; to = left }) c o a

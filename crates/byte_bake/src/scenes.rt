@@ -95,7 +95,8 @@ fn bake_decoded(
         (room marks slots walk places worlds «position_floats» «normal_floats» «tangent_floats»)
         (byteOutput positions normals tangents) r ⌝ }
     ensures { λ _. ⌜ decodingRoom «word_room» «float_room» .to
-        ≡ decodedTo (sceneBytes words floats «node_weights» «mesh_weights») (decodingRoom «word_room» «float_room» .from) ⌝ }
+        ≡ decodedTo (sceneBytes words floats «node_weights» «mesh_weights»)
+        (decodingRoom «word_room» «float_room» .from) ⌝ }
 {
     wire::read_words(words, word_room);
     lent_bytes::decode_floats(floats, node_weights, mesh_weights, float_room);
@@ -121,9 +122,9 @@ fn bake_decoded(
     )
 }
 
-// The mesh of a node in the world at the time with the given bit pattern, as `bake_floats` says it, of a scene in bytes: it
-// is decoded into room that is lent. The mesh is left in floats and in bytes, and an output has as much room as both have.
-// Answers 1, 2, 3, 5 to 10 or 0. What scratch room and outputs hold at entry is not read.
+// The mesh of a node in the world at the time with the given bit pattern, as `bake_floats` says it, of a scene in
+// bytes: it is decoded into room that is lent. The mesh is left in floats and in bytes, and an output has as much room
+// as both have. Answers 1, 2, 3, 5 to 10 or 0. What scratch room and outputs hold at entry is not read.
 #[no_mangle]
 pub extern "C" fn bake(
     words: &[u8],
@@ -154,8 +155,7 @@ pub extern "C" fn bake(
 {
     let time = float::from_bits(time);
     let count = lent_bytes::count_of(floats, node_weights, mesh_weights);
-    let drawn =
-        lent_bytes::room_number(words.len() / 4, count, word_room.len(), float_room.len());
+    let drawn = lent_bytes::room_number(words.len() / 4, count, word_room.len(), float_room.len());
     let number = byte_checks::first_number(
         words,
         floats,

@@ -14,6 +14,7 @@ use Rattle.model.specs.Lists.{pick, isSome}
 use Rattle.model.specs.Scene.{Scene, Mesh, meshAt}
 use Rattle.model.specs.Refusals.{lowest, earlyNumber}
 use Rattle.model.specs.Bake as model
+use Rattle.model.proofs.Numbers.{lowest-none}
 use Rattle.model.proofs.Demand.{measured}
 use Rattle.tables.specs.Decoded.{Lent, sceneOf}
 use Rattle.checks.specs.Drawn.{tablesNumber}
@@ -24,11 +25,6 @@ use Rattle.byte_checks.specs.Numbers.{earlyIn, firstIn}
 use Rattle.byte_baking.specs.Output.{ByteOutput, withFloats, withOutput, Fits}
 use Rattle.byte_baking.specs.Baked.{requestIn, outcomeIn, isReached, roomIn, BakedIn}
 use Rattle.byte_baking.proofs.OutputLaws.{whole, fits, start}
-
--- a decoding room that draws nothing
-lowest-none : (n : ℕ) → lowest n 0 ≡ n
-lowest-none zero = refl
-lowest-none (suc n) = refl
 
 -- whether the scratch room is changed
 reached : (g : ℕ) (s : Scene) (r : model.Request) (e : ℕ) (m : Option Mesh) → earlyNumber g s (r .time) (r .scratch) ≡ e → meshAt s (r .node) ≡ m

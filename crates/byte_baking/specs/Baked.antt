@@ -28,13 +28,15 @@ requestIn i time r o = record {
 
 -- the bake of the model, after what the decoding room draws (0 or 6)
 abbrev pub outcomeIn : ℕ → Lent → ℕ → Float → Room → ByteOutput → model.Outcome
-outcomeIn drawn l i time r o = model.bakedAfter (earlyIn drawn l time (roomOf (r .scratch))) (sceneOf l) (requestIn i time r o)
+outcomeIn drawn l i time r o =
+    model.bakedAfter (earlyIn drawn l time (roomOf (r .scratch))) (sceneOf l) (requestIn i time r o)
 
 -- whether the call gets past 7, and so changes the scratch room
 abbrev pub isReached : ℕ → Lent → ℕ → Float → Room → Bool
 isReached drawn l i time r = eqb (firstIn drawn l i time (roomOf (r .scratch))) 0
 
--- each output starts with the result and is as lent past it; the scratch room is as an accepted call leaves it, or as lent after 1 to 7
+-- each output starts with the result and is as lent past it; the scratch room is as an accepted call leaves it, or as
+-- lent after 1 to 7
 unfoldable pub roomIn : ℕ → Lent → ℕ → Float → Room → ByteOutput → Room
 roomIn drawn l i time r o =
     let result = outcomeIn drawn l i time r o .output in
@@ -47,7 +49,8 @@ roomIn drawn l i time r o =
       };
     }
 
-pub record BakedIn (drawn : ℕ) (l : Lent) (i : ℕ) (time : Float) (c : Change Room) (o : Change ByteOutput) (a : Answer) : Type 0 where
+pub record BakedIn (drawn : ℕ) (l : Lent) (i : ℕ) (time : Float) (c : Change Room) (o : Change ByteOutput)
+    (a : Answer) : Type 0 where
   pub answer : answerOf a ≡ outcomeIn drawn l i time (c .from) (o .from) .answer
   pub room : c .to ≡ roomIn drawn l i time (c .from) (o .from)
   pub bytes : o .to ≡ withOutput (outcomeIn drawn l i time (c .from) (o .from) .output) (o .from)

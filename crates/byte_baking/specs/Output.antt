@@ -16,8 +16,16 @@ pub record ByteOutput : Type 0 where
 
 abbrev pub byteOutput : Words → Words → Words → Change ByteOutput
 byteOutput positions normals tangents = record {
-  from = record { positions = now (positions .entry); normals = now (normals .entry); tangents = now (tangents .entry) };
-  to = record { positions = now (positions .exit); normals = now (normals .exit); tangents = now (tangents .exit) };
+  from = record {
+    positions = now (positions .entry);
+    normals = now (normals .entry);
+    tangents = now (tangents .entry);
+  };
+  to = record {
+    positions = now (positions .exit);
+    normals = now (normals .exit);
+    tangents = now (tangents .exit);
+  };
 }
 
 -- floats at the start of a slice of bytes

@@ -1,5 +1,5 @@
--- The numbers of calls on scenes in bytes: those of the calls on words and floats, and 6 also where the decoding room is
--- short (scope, "Numbers when a piece is turned down"). The first argument is what the decoding room draws, 6 or 0.
+-- The numbers of calls on scenes in bytes: those of the calls on words and floats, and 6 also where the decoding room
+-- is short (scope, "Numbers when a piece is turned down"). The first argument is what the decoding room draws, 6 or 0.
 -- Definitions only.
 use mathlib.Core.List.{List}
 use Prim.Native.Nat.{ℕ}
@@ -12,7 +12,8 @@ use Rattle.tables.specs.Decoded.{Lent, sceneOf}
 use Rattle.checks.specs.Drawn.{tablesNumber}
 use Rattle.worlds.specs.Rooms.{shortIn}
 
--- 6 where there is room for too few entries, poses or worlds, by the counts of the tables, otherwise the decoding room's
+-- 6 where there is room for too few entries, poses or worlds, by the counts of the tables, otherwise the decoding
+-- room's
 abbrev pub roomIn : ℕ → List ℕ → Graph → ℕ → ℕ → ℕ → ℕ
 roomIn room words graph walk poses worlds = pick (shortIn words graph walk poses worlds) (number shortScratch) room
 

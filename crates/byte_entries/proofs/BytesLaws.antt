@@ -1,15 +1,15 @@
 -- A placing on bytes that is refused, and one that is accepted. Assumes nothing.
-use mathlib.Core.Path.{_≡_, refl, sym, ap, _∙_, subst}
+use mathlib.Core.Path.{_≡_, sym, ap, _∙_, subst}
 use mathlib.Core.Bool.{Bool}
 use mathlib.Core.List.{List}
-use Prim.Native.Nat.{ℕ, zero, suc}
-use native.Mathlib.Omega.{arith}
+use Prim.Native.Nat.{ℕ}
 use borrow.Author.Tests.{eq-eqb, ne-eqb}
 use lib.Ieee.{Float}
 use Rattle.borrowed.specs.Slices.{Change}
 use Rattle.model.specs.Lists.{pick}
 use Rattle.model.specs.Placing.{taken}
-use Rattle.model.specs.Refusals.{lowest, placeNumber}
+use Rattle.model.specs.Refusals.{placeNumber}
+use Rattle.model.proofs.Numbers.{neither-drawn}
 use Rattle.tables.specs.declared.Header.{Header}
 use Rattle.tables.specs.Decoded.{Lent, sceneOf}
 use Rattle.checks.specs.Drawn.{tablesNumber}
@@ -18,10 +18,6 @@ use Rattle.lent_bytes.specs.Bytes.{SceneBytes, Decoding, lentBy, drawnBy, decod
 use Rattle.byte_checks.specs.Numbers.{placeIn}
 use Rattle.byte_placing.specs.Placed.{Room, scratchIn, placedTo, PlacedIn}
 use Rattle.byte_entries.specs.Placed.{PlacedBytes}
-
-nothing-drawn : (e g : ℕ) → lowest e g ≡ 0 → g ≡ 0
-nothing-drawn zero g q = q
-nothing-drawn (suc e) g q = absurd (omega (arith, q))
 
 module _ (b : SceneBytes) (h : Header) (marks : List ℕ) (slots : List Float) (d : Decoding) (n : ℕ) where
   abbrev l : Lent
@@ -43,7 +39,9 @@ module _ (b : SceneBytes) (h : Header) (marks : List ℕ) (slots : List Float) (
   module _ (c : Change Room) (p : n ≡ placeIn (drawnBy b d) l (scratchIn marks slots (c .from))) (z : n ≡ 0) where
     -- the room is long enough
     pub long-enough : drawnBy b d ≡ 0
-    long-enough = nothing-drawn (placeNumber (tablesNumber l) (sceneOf l) (scratchIn marks slots (c .from))) (drawnBy b d) (sym p ∙ z)
+    long-enough =
+        neither-drawn (placeNumber (tablesNumber l) (sceneOf l) (scratchIn marks slots (c .from))) (drawnBy b d)
+        (sym p ∙ z) .1
 
     pub placed-bytes : (left : Decoding) (a : Answer) → left ≡ decodedTo b d → PlacedIn 0 l marks slots c a
         → PlacedBytes b h marks slots (record { from = d; to = left }) c a

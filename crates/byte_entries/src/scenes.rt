@@ -79,13 +79,23 @@ fn place_decoded(
     lent_bytes::decode_floats(floats, node_weights, mesh_weights, float_room);
     let e = lent_bytes::ends_of(words, floats, node_weights, mesh_weights);
     place_standing(
-        word_room, float_room, e, h, marks, slots, walk, codes, matrices, places, worlds,
+        word_room,
+        float_room,
+        e,
+        h,
+        marks,
+        slots,
+        walk,
+        codes,
+        matrices,
+        places,
+        worlds,
     )
 }
 
-// Where every node stands in a given pose, as `place_floats` says it, of a scene in bytes: it is decoded into room that is
-// lent. The code of a node's place and its world are left in numbers and in bytes, and there are as many world slots as
-// both have. Answers 1, 2, 6 or 0, and the entries taken.
+// Where every node stands in a given pose, as `place_floats` says it, of a scene in bytes: it is decoded into room that
+// is lent. The code of a node's place and its world are left in numbers and in bytes, and there are as many world slots
+// as both have. Answers 1, 2, 6 or 0, and the entries taken.
 #[no_mangle]
 pub extern "C" fn place(
     words: &[u8],
@@ -108,8 +118,7 @@ pub extern "C" fn place(
         (placingRoom walk codes matrices places worlds) r ⌝ }
 {
     let count = lent_bytes::count_of(floats, node_weights, mesh_weights);
-    let drawn =
-        lent_bytes::room_number(words.len() / 4, count, word_room.len(), float_room.len());
+    let drawn = lent_bytes::room_number(words.len() / 4, count, word_room.len(), float_room.len());
     let number_slots = wire::least(codes.len(), places.len() / 4);
     let world_slots = wire::least(matrices.len(), worlds.len() / 4) / 16;
     let number = byte_checks::place_number(

@@ -1,8 +1,8 @@
 -- A placing in numbers whose results are written in bytes. Assumes nothing.
-use mathlib.Core.Path.{_≡_, refl, sym, ap, _∙_}
+use mathlib.Core.Path.{_≡_, sym, ap, _∙_}
 use mathlib.Core.Bool.{Bool, true}
 use mathlib.Core.List.{List, _++_, append-assoc}
-use Prim.Native.Nat.{ℕ, zero, suc, _*_, _/_, _≤_, min}
+use Prim.Native.Nat.{ℕ, _*_, _/_, _≤_, min}
 use native.Mathlib.Omega.{arith}
 use borrow.Author.Tests.{eq-eqb, ne-eqb}
 use lib.Dec.{eqb}
@@ -14,6 +14,7 @@ use Rattle.model.specs.Scene.{nodeCount}
 use Rattle.model.specs.Placing.{places}
 use Rattle.model.specs.World.{worlds}
 use Rattle.model.specs.Refusals.{lowest, placeNumber}
+use Rattle.model.proofs.Numbers.{lowest-none}
 use Rattle.wire.specs.Bytes.{bytesOfWords, bytesOf, writtenAs, WroteAs}
 use Rattle.wire.proofs.Writing.{all-written}
 use Rattle.tables.specs.Decoded.{Lent, sceneOf}
@@ -26,10 +27,6 @@ use Rattle.worlds.specs.Slots.{slotsOf}
 use Rattle.worlds.specs.Placed.{scratchOf, posesIn, Placed}
 use Rattle.worlds.proofs.Delivering.{few, world-room}
 use Rattle.byte_placing.specs.Placed.{Room, scratchIn, placedTo, PlacedIn, WrittenBack}
-
-lowest-none : (n : ℕ) → lowest n 0 ≡ n
-lowest-none zero = refl
-lowest-none (suc n) = refl
 
 -- the first n entries, written to bytes that have room for them
 pub front-written : {A : Type 0} {g : A → ℕ} (xs : List A) (n : ℕ) (lent left : List ℕ) (count : ℕ) → n ≤ length xs → 4 * n ≤ length lent

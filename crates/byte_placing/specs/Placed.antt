@@ -21,7 +21,8 @@ use Rattle.worlds.specs.Slots.{slotsOf}
 use Rattle.worlds.specs.Placed.{posesIn}
 use Rattle.byte_checks.specs.Numbers.{placeIn}
 
--- the room that a placing changes: walk room and world slots (codes of places, and matrices), and the slots once more in bytes
+-- the room that a placing changes: walk room and world slots (codes of places, and matrices), and the slots once more
+-- in bytes
 pub record Room : Type 0 where
   pub walk : List ℕ
   pub codes : List ℕ
@@ -52,7 +53,9 @@ abbrev pub scratchIn : List ℕ → List Float → Room → Scratch
 scratchIn marks slots r = record {
   walkRoom = length (r .walk) / 2;
   poseSlots = room marks slots;
-  worldSlots = min (min (length (r .codes)) (length (r .places) / 4)) (min (length (r .matrices)) (length (r .worlds) / 4) / 16);
+  worldSlots =
+      min (min (length (r .codes)) (length (r .places) / 4))
+      (min (length (r .matrices)) (length (r .worlds) / 4) / 16);
 }
 
 -- the walk room is wiped; every node has the code of its place and its world, and past the nodes the slots are as lent
@@ -77,6 +80,7 @@ pub record PlacedIn (drawn : ℕ) (l : Lent) (marks : List ℕ) (slots : List Fl
   pub slices : c .to ≡ pick (eqb (a .number) 0) (placedTo l marks slots (c .from)) (c .from)
 
 -- n codes and n matrices at the start of bytes
-pub record WrittenBack (n : ℕ) (codes : List ℕ) (matrices : List Float) (lentPlaces leftPlaces lentWorlds leftWorlds : List ℕ) : Type 0 where
+pub record WrittenBack (n : ℕ) (codes : List ℕ) (matrices : List Float)
+    (lentPlaces leftPlaces lentWorlds leftWorlds : List ℕ) : Type 0 where
   pub places : leftPlaces ≡ bytesOfWords (take n codes) ++ drop (4 * n) lentPlaces
   pub worlds : leftWorlds ≡ bytesOf (take (n * 16) matrices) ++ drop (4 * (n * 16)) lentWorlds

@@ -26,7 +26,8 @@ abbrev pub bytesLent : Words → Words → Words → Words → Header → Lent
 bytesLent words floats nodeWeights meshWeights h =
     lentIn (now (words .entry)) (now (floats .entry)) (now (nodeWeights .entry)) (now (meshWeights .entry)) h
 
--- ---- the decoding room, a part of the scratch room (the scope's bench): the words, and the floats of all slices one after the other
+-- ---- the decoding room, a part of the scratch room (the scope's bench): the words, and the floats of all slices one
+-- after the other
 
 pub record Decoding : Type 0 where
   pub words : List ℕ

@@ -25,6 +25,15 @@ first-le n (t ∷ ts) h = go (t .applies) (first-le n ts (h .1))
     go false rest = rest
 
 -- a number that is drawn comes before every other
+pub lowest-none : (n : ℕ) → lowest n 0 ≡ n
+lowest-none zero = refl
+lowest-none (suc n) = refl
+
+-- where none is drawn, neither of two is
+pub neither-drawn : (e g : ℕ) → lowest e g ≡ 0 → (e ≡ 0) × (g ≡ 0)
+neither-drawn zero g z = (refl, z)
+neither-drawn (suc e) g z = absurd (omega (arith, z))
+
 pub lowest-some : (g n : ℕ) → (g ≡ 0 → ⊥) → g ≡ lowest g n
 lowest-some zero n d = absurd (d refl)
 lowest-some (suc g) n d = refl

@@ -26,7 +26,7 @@ pub data Refusal : Type 0 where
   unevenTrack : Refusal
   -- keys out of line
   keysOutOfLine : Refusal
-  -- short bench: walk room, pose slots or world slots
+  -- short bench: walk room, pose slots, world slots, or the room that bytes are decoded into
   shortScratch : Refusal
   -- no such piece
   noSuchNode : Refusal

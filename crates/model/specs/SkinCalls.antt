@@ -12,7 +12,8 @@ use Rattle.model.specs.Lists.{isSome, orElse, andThen}
 use Rattle.model.specs.Matrix.{Matrix}
 use Rattle.model.specs.Scene.{Scene, Skeleton, Mesh, nodeCount, nodeAt, meshAt, skeletonOf, skeletonAt}
 use Rattle.model.specs.Skin.{paletteOf, skinRoot, effectiveWeights}
-use Rattle.model.specs.Refusals.{Test, firstOf, lowest, shortScratch, noSuchNode, noPalette, shortOutput, noCommonRoot}
+use Rattle.model.specs.Refusals.{Test, firstOf, lowest, shortScratch, noSuchNode, noPalette, shortOutput}
+use Rattle.model.specs.Refusals.{noCommonRoot}
 
 -- ---- the palette (`joint_matrices_with`), from worlds that are given
 

@@ -11,7 +11,7 @@ pub const NO_TIME: u32 = 3;
 pub const UNEVEN_TRACK: u32 = 4;
 // Keys out of line.
 pub const KEYS_OUT_OF_LINE: u32 = 5;
-// Short bench: walk room, pose slots or world slots.
+// Short bench: walk room, pose slots, world slots, or the room that bytes are decoded into.
 pub const SHORT_SCRATCH: u32 = 6;
 // No such piece.
 pub const NO_SUCH_NODE: u32 = 7;

@@ -41,8 +41,7 @@ returns c =
     let d = roomOf s in
     let n = enough b d (s .pre) in
     let w = all-read (λ (x : ℕ). x) (b .words) (d .words) _ _ (n .0) (c .before .before .before .before .before .before .before .before .before .before .before .before .before .before .before .before .before .before .before .before .before .before .before .before .before .read-words .ensures) in
-    let f = all-there (countOf (b .floats) (b .nodeWeights) (b .meshWeights)) (floatsOf (b .floats) (b .nodeWeights) (b .meshWeights)) (d .floats) _ (n .1) (c .before .before .before .before .before .before .before .before .before .before .before .before .before .before .before .before .before .before .before .before .before .decode-floats .ensures) in
-    (
+    let f = all-there (countOf (b .floats) (b .nodeWeights) (b .meshWeights)) (floatsOf (b .floats) (b .nodeWeights) (b .meshWeights)) (d .floats) _ (n .1) (c .before .before .before .before .before .before .before .before .before .before .before .before .before .before .before .before .before .before .before .before .before .decode-floats .ensures) in (
       same-lent ((λ j. standingIn (c .before .before .before .before .before .before .before .before .before .before .before .before .before .before .before .before .before .before .before .before .before .before .before .before .before .read-words .last .1 .0) (c .before .before .before .before .before .before .before .before .before .before .before .before .before .before .before .before .before .before .before .before .before .decode-floats .last .1 .1 .1 .0) (c .before .before .before .before .before .before .before .before .before .before .before .before .before .before .before .before .before .before .ends-of .ensures j) (s .args .h)) ∙ standing b (s .args .h) d _ _ w f) (c .before .before .before .before .before .before .before .before .before .before .place-standing .ensures),
       λ j. record { words = w j; floats = f j },
     )
