@@ -1,5 +1,5 @@
 pub mod Meshed
 pub mod Judging
 pub mod TablesRange
-pub mod TwoMakers
+pub mod Isolated
 pub mod Whole

@@ -1,2 +1,2 @@
 pub mod Baked
-pub mod Makers
+pub mod Isolation

@@ -1,2 +1,2 @@
 pub mod BytesLaws
-pub mod TwoMakers
+pub mod Isolated

@@ -8,7 +8,7 @@ use Rattle.borrowed.specs.Slices.{Change}
 use Rattle.model.specs.Lists.{sumOf}
 use Rattle.model.specs.Scene.{Scene, Node, nodeCount, childrenAt}
 use Rattle.placing.specs.Walk.{entriesOf}
-use Rattle.placing.specs.Bench.{Item, listedAs, itemAt, stackOf, waiting, childCounts, pending, Marks, State, takeOne, drained, Named, Ready, Started, Stepped}
+use Rattle.placing.specs.WalkRoom.{Item, listedAs, itemAt, stackOf, waiting, childCounts, pending, Marks, State, takeOne, drained, Named, Ready, Started, Stepped}
 use Rattle.placing.proofs.Stack.{stack-length, stack-top, named-listed}
 use Rattle.placing.proofs.Unplaced.{free-all}
 use Rattle.placing.proofs.Taking.{drained-one, drained-none, one-less, still-named, still-left}

@@ -18,7 +18,7 @@ use Rattle.model.proofs.Walking.{Stands, InTurn, in-turn}
 use Rattle.model.proofs.Placed.{taken-is-counted}
 use Rattle.tables.specs.Codes.{codeOf, codesOf}
 use Rattle.placing.specs.Walk.{entriesOf, Wiped, Walked}
-use Rattle.placing.specs.Bench.{Item, listedAs, stackOf, waiting, Marks, State, takeOne, Ended, drained, Started, Drained}
+use Rattle.placing.specs.WalkRoom.{Item, listedAs, stackOf, waiting, Marks, State, takeOne, Ended, drained, Started, Drained}
 use Rattle.placing.proofs.Unplaced.{free-place, free-all}
 use Rattle.placing.proofs.Taking.{placed, dropped}
 use Rattle.placing.proofs.Going.{bound}

@@ -8,7 +8,7 @@ use native.Mathlib.Omega.{arith}
 use lib.ListN.{length, getD, set, take, drop, length-set, length-append, length-drop}
 use lib.Seq.{getD-set-same, getD-set-other, getD-at, getD-append-add, take-append-le, drop-cons, drop-length}
 use lib.Seq.{paste, paste-suc}
-use Rattle.placing.specs.Bench.{Item, listedAs, itemAt, stackOf, wordsFor, Named}
+use Rattle.placing.specs.WalkRoom.{Item, listedAs, itemAt, stackOf, wordsFor, Named}
 
 -- the two words of entry k
 abbrev written : List ℕ → ℕ → ℕ → ℕ → List ℕ

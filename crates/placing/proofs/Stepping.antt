@@ -9,7 +9,7 @@ use Rattle.model.proofs.ListLaws.{length-tabulate, getD-tabulate, same-entry}
 use Rattle.tables.specs.declared.Graph.{Graph}
 use Rattle.tables.specs.Decoded.{childrenIn}
 use Rattle.placing.specs.Walk.{listingIn}
-use Rattle.placing.specs.Bench.{listedAs, itemAt, stackOf, childCounts, Marks, marked, Ready, Pushed, Stepped}
+use Rattle.placing.specs.WalkRoom.{listedAs, itemAt, stackOf, childCounts, Marks, marked, Ready, Pushed, Stepped}
 use Rattle.placing.proofs.Unplaced.{waiting-one, free-one}
 use Rattle.placing.proofs.Taking.{is-placed, is-dropped, count-at, counts-length}
 

@@ -9,7 +9,7 @@ use lib.Dec.{eqb}
 use lib.ListN.{length, getD, set, replicate, length-append, length-map, List·getD-map}
 use Rattle.model.specs.Lists.{pick}
 use Rattle.model.specs.Scene.{Scene, Node, blank, nodeCount, childrenAt}
-use Rattle.placing.specs.Bench.{Item, listedAs, waiting, childCounts, Marks, State, marked, takeOne, drained, Named}
+use Rattle.placing.specs.WalkRoom.{Item, listedAs, waiting, childCounts, Marks, State, marked, takeOne, drained, Named}
 use Rattle.placing.proofs.Stack.{listed-length, named-listed}
 use Rattle.placing.proofs.Unplaced.{waiting-place, free-place}
 

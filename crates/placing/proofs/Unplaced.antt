@@ -4,7 +4,7 @@ use mathlib.Core.List.{List, [], _∷_}
 use Prim.Native.Nat.{ℕ, zero, suc, _+_, _≤_, _<_, suc-le-suc}
 use native.Mathlib.Omega.{arith}
 use lib.ListN.{length, getD, set, replicate, List·getD-eq-default, length-replicate}
-use Rattle.placing.specs.Bench.{waiting}
+use Rattle.placing.specs.WalkRoom.{waiting}
 
 pub out-of-range : (l : List ℕ) (i : ℕ) → length l ≤ i → getD l i 1 ≡ 0 → ⊥
 out-of-range l i h e = omega (arith, List·getD-eq-default l 1 h)

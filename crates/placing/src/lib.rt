@@ -10,7 +10,7 @@ ghost use Rattle.borrowed.specs.Slices.{change};
 ghost use Rattle.model.specs.Limits.{nodeLimit};
 ghost use Rattle.tables.specs.Decoded.{childrenIn};
 ghost use Rattle.placing.specs.Walk.{rootsIn, listingIn, entriesOf, Wiped, Walked};
-ghost use Rattle.placing.specs.Bench.{Named, stackOf, Ready, Pushed, Started, StepsIn, DrainsIn};
+ghost use Rattle.placing.specs.WalkRoom.{Named, stackOf, Ready, Pushed, Started, StepsIn, DrainsIn};
 
 // How many entries were taken, and how many nodes were placed.
 pub struct Run {

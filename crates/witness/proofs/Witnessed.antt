@@ -5,8 +5,8 @@ use Rattle.float.specs.F32.{zero32}
 use Rattle.model.specs.Bake.{Outcome, written}
 use Rattle.bake.specs.declared.Answer.{Answer}
 use Rattle.bake.specs.Baked.{Change, roomAfter, Baked}
-use Rattle.bake.specs.Makers.{SameLengths, NotRefusedEarly, SameShown}
-use Rattle.bake.proofs.TwoMakers.{two-makers}
+use Rattle.bake.specs.Isolation.{SameLengths, NotRefusedEarly, SameShown}
+use Rattle.bake.proofs.Isolated.{isolated}
 use Rattle.witness.specs.Scenes.{vector, half32, four32}
 use Rattle.witness.specs.Tables.{lent₁, lent₂, room₁, room₂}
 use Rattle.witness.proofs.Agreed.{agree}
@@ -46,7 +46,7 @@ not-refused p q = omega arith
 -- what demand 3 says of them
 pub same : SameShown answer answer (change₁ .to) (change₂ .to)
 same =
-    two-makers lent₁ lent₂ 2 half32 change₁ change₂ answer answer baked₁ baked₂ lengths agree not-refused not-refused
+    isolated lent₁ lent₂ 2 half32 change₁ change₂ answer answer baked₁ baked₂ lengths agree not-refused not-refused
 
 -- the vertex (1, 0, 0), which the joint and the node above it have moved by 3
 pub shown : change₁ .to .output .positions ≡ vector four32 zero32 zero32

@@ -6,7 +6,7 @@ use borrow.Author.Needs.{needs}
 use lib.ListN.{length, replicate}
 use Rattle.placing.specs.declared.Run.{Run}
 use Rattle.placing.specs.Walk.{listingIn}
-use Rattle.placing.specs.Bench.{pending}
+use Rattle.placing.specs.WalkRoom.{pending}
 use Rattle.placing.proofs.Going.{marks, Going, at-first, less, next, at-last}
 use Rattle.placing.proofs.drain.Statement.{statement}
 use Rattle.placing.proofs.drain.Tie as tie

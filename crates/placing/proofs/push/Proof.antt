@@ -6,7 +6,7 @@ use native.Mathlib.Omega.{arith}
 use borrow.Author.Needs.{needs}
 use lib.ListN.{length, getD, drop, length-set}
 use lib.Seq.{paste, paste-zero}
-use Rattle.placing.specs.Bench.{Item, listedAs, stackOf, wordsFor}
+use Rattle.placing.specs.WalkRoom.{Item, listedAs, stackOf, wordsFor}
 use Rattle.placing.proofs.Stack.{pushed, listed-none, listed-more, words-more}
 use Rattle.placing.proofs.push.Statement.{statement}
 use Rattle.placing.proofs.push.Tie as tie

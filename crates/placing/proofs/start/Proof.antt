@@ -8,7 +8,7 @@ use denote.Ref.{now}
 use lib.ListN.{length}
 use lib.Seq.{paste}
 use Rattle.placing.specs.Walk.{listingIn}
-use Rattle.placing.specs.Bench.{listedAs, stackOf, wordsFor}
+use Rattle.placing.specs.WalkRoom.{listedAs, stackOf, wordsFor}
 use Rattle.placing.proofs.start.Statement.{statement}
 use Rattle.placing.proofs.start.Tie as tie
 

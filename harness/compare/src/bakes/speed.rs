@@ -5,8 +5,9 @@
 use super::case::{room, Case};
 use crate::{
     graph::{no_animation, scenes::tree},
+    in_bytes::Encoded,
     measure::side_by_side,
-    port,
+    port::{self, ByteOutputs, Decoding},
     pose::Moved,
     rng::Rng,
     sampling::speed::vectors,
@@ -32,6 +33,7 @@ pub fn measure() {
         let rigid = with_mesh(&mut rng, 1, vertices);
         let name = |sort: &str| format!("bake, {sort}, vertices {vertices}");
         measure_scene(&name("rigid"), vertices, &rigid, &still);
+        measure_bytes(&name("rigid, on bytes"), vertices, &rigid);
         let mut skinned = with_mesh(&mut rng, JOINTS, vertices);
         add_skin(&mut skinned, &mut rng);
         measure_scene(&name("skinned"), vertices, &skinned, &still);
@@ -123,6 +125,40 @@ fn measure_scene(name: &str, results: usize, scene: &Scene3D, animation: &Animat
     let case = Case::new(scene, &moved, lent.of_port(), 1.0);
     let mut room = room(case.lens(0));
     let mut bake = || port::bake(black_box(&case.lent), 0, 1.0, black_box(&mut room));
+    assert_eq!(bake().number, 0, "the speed of a refusal");
+    side_by_side(
+        name,
+        results,
+        || {
+            black_box(bake());
+        },
+        || {
+            black_box(black_box(&case).rust_mesh(0));
+        },
+    );
+}
+
+fn measure_bytes(name: &str, results: usize, scene: &Scene3D) {
+    let animation = no_animation();
+    let lent = lend(scene, &animation, &mut Layout::Compact);
+    let moved = Moved::new(scene, animation, &mut Rng::new(1));
+    let case = Case::new(scene, &moved, lent.of_port(), 1.0);
+    let encoded = Encoded::of(&case.lent, [0; 4]);
+    let mut decoding = Decoding::enough(&case.lent);
+    let mut room = room(case.lens(0));
+    let [positions, normals, tangents] =
+        [&room.positions, &room.normals, &room.tangents].map(|floats| vec![0; 4 * floats.len()]);
+    let mut outputs = ByteOutputs {
+        positions,
+        normals,
+        tangents,
+    };
+    let asked = (0, 1.0f32.to_bits());
+    let tables = encoded.lent();
+    let mut bake = || {
+        let tables = black_box(&tables);
+        port::bake_bytes(tables, asked, &mut decoding, &mut room, &mut outputs)
+    };
     assert_eq!(bake().number, 0, "the speed of a refusal");
     side_by_side(
         name,

@@ -26,14 +26,14 @@ use Rattle.checks.specs.Drawn.{tablesNumber}
 use Rattle.bake_stages.specs.Scratch.{roomOf}
 use Rattle.bake.specs.declared.Answer.{Answer}
 use Rattle.bake.specs.Baked.{Room, answerOf}
-use Rattle.bake.specs.Makers.{NotRefusedEarly}
+use Rattle.bake.specs.Isolation.{NotRefusedEarly}
 use Rattle.bake.proofs.TablesRange.{tables-at-most-2}
 use Rattle.lent_bytes.specs.Bytes.{SceneBytes, Decoding, countOf, lentBy, drawnBy}
 use Rattle.byte_checks.specs.Numbers.{earlyIn}
 use Rattle.byte_baking.specs.Output.{ByteOutput, withFloats}
 use Rattle.byte_baking.specs.Baked.{requestIn, outcomeIn, BakedIn}
 use Rattle.byte_bake.specs.Baked.{BakedBytes}
-use Rattle.byte_bake.specs.Makers.{SameLengths, SameShown}
+use Rattle.byte_bake.specs.Isolation.{SameLengths, SameShown}
 
 -- ---- the outcome of one run
 
@@ -93,11 +93,11 @@ shown n result lent left e w =
 as-answer : (a b : Answer) → answerOf a ≡ answerOf b → a ≡ b
 as-answer a b e = λ j. record { number = e j .refusal; positions = e j .positions; normals = e j .normals; tangents = e j .tangents; taken = e j .taken }
 
-pub two-makers-bytes : (b₁ b₂ : SceneBytes) (h₁ h₂ : Header) (i : ℕ) (time : Float) (d₁ d₂ : Change Decoding) (c₁ c₂ : Change Room) (o₁ o₂ : Change ByteOutput) (a₁ a₂ : Answer)
+pub isolated-bytes : (b₁ b₂ : SceneBytes) (h₁ h₂ : Header) (i : ℕ) (time : Float) (d₁ d₂ : Change Decoding) (c₁ c₂ : Change Room) (o₁ o₂ : Change ByteOutput) (a₁ a₂ : Answer)
     → BakedBytes b₁ h₁ i time d₁ c₁ o₁ a₁ → BakedBytes b₂ h₂ i time d₂ c₂ o₂ a₂
     → SameLengths (c₁ .from) (c₂ .from) (o₁ .from) (o₂ .from) → Agree (sceneOf (lentBy b₁ h₁)) (sceneOf (lentBy b₂ h₂)) i
     → NotRefusedEarly a₁ → NotRefusedEarly a₂ → SameShown a₁ a₂ (o₁ .to) (o₂ .to)
-two-makers-bytes b₁ b₂ h₁ h₂ i time d₁ d₂ c₁ c₂ o₁ o₂ a₁ a₂ k₁ k₂ e agree p₁ p₂ =
+isolated-bytes b₁ b₂ h₁ h₂ i time d₁ d₂ c₁ c₂ o₁ o₂ a₁ a₂ k₁ k₂ e agree p₁ p₂ =
     let l₁ = lentBy b₁ h₁ in
     let l₂ = lentBy b₂ h₂ in
     let x₁ = outcomeIn (drawnBy b₁ (d₁ .from)) l₁ i time (c₁ .from) (o₁ .from) in

@@ -4,7 +4,7 @@ use Prim.Native.Nat.{ℕ, _*_}
 use lib.ListN.{length, take}
 use Rattle.bake.specs.declared.Answer.{Answer}
 use Rattle.bake.specs.Baked.{Room}
-use Rattle.bake.specs.Makers as floats
+use Rattle.bake.specs.Isolation as floats
 use Rattle.byte_baking.specs.Output.{ByteOutput}
 
 -- scratch room and outputs of the same lengths, whatever they hold; the decoding rooms may differ

@@ -12,7 +12,7 @@ use Rattle.tables.specs.Decoded.{Lent, sceneOf}
 use Rattle.checks.specs.Drawn.{tablesNumber}
 use Rattle.bake.specs.declared.Answer.{Answer}
 use Rattle.bake.specs.Baked.{Room, Change, requestOf, outcome, answerOf, roomAfter, Baked}
-use Rattle.bake.specs.Makers.{SameLengths, NotRefusedEarly, SameShown}
+use Rattle.bake.specs.Isolation.{SameLengths, NotRefusedEarly, SameShown}
 use Rattle.bake.proofs.TablesRange.{tables-at-most-2}
 
 same-request : (i : ℕ) (time : Float) (r s : Room) → SameLengths r s → requestOf i time r ≡ requestOf i time s
@@ -45,11 +45,11 @@ module _ (l : Lent) (i : ℕ) (time : Float) (c : Change) (a : Answer) (b : Bake
   past : NotRefusedEarly a → Past6 (outcome l i time (c .from))
   past h = subst (λ (n : ℕ). 1 ≤ n → n ≤ 6 → ⊥) (λ j. b .answer j .refusal) h
 
-pub two-makers : (l₁ l₂ : Lent) (i : ℕ) (time : Float) (c₁ c₂ : Change) (a₁ a₂ : Answer)
+pub isolated : (l₁ l₂ : Lent) (i : ℕ) (time : Float) (c₁ c₂ : Change) (a₁ a₂ : Answer)
     → Baked l₁ i time c₁ a₁ → Baked l₂ i time c₂ a₂
     → SameLengths (c₁ .from) (c₂ .from) → Agree (sceneOf l₁) (sceneOf l₂) i → NotRefusedEarly a₁ → NotRefusedEarly a₂
     → SameShown a₁ a₂ (c₁ .to) (c₂ .to)
-two-makers l₁ l₂ i time c₁ c₂ a₁ a₂ b₁ b₂ e h p₁ p₂ =
+isolated l₁ l₂ i time c₁ c₂ a₁ a₂ b₁ b₂ e h p₁ p₂ =
     let lent₁ = c₁ .from in
     let lent₂ = c₂ .from in
     let q = same-request i time lent₁ lent₂ e in
