@@ -1,5 +1,5 @@
-// The C function of the bake on scenes that are lent in bytes (`rt staticlib byte_bake`): little-endian words and
-// floats; include/byte_bake.h declares it.
+// The C function of the bake on scenes that are lent in bytes, as little-endian words and floats; include/mesh3d.h
+// declares it.
 mod scenes;
 
-pub use scenes::bake;
+pub use scenes::mesh3d_bake;

@@ -126,7 +126,7 @@ fn bake_decoded(
 // bytes: it is decoded into room that is lent. The mesh is left in floats and in bytes, and an output has as much room
 // as both have. Answers 1, 2, 3, 5 to 10 or 0. What scratch room and outputs hold at entry is not read.
 #[no_mangle]
-pub extern "C" fn bake(
+pub extern "C" fn mesh3d_bake(
     words: &[u8],
     floats: &[u8],
     node_weights: &[u8],

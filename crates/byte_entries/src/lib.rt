@@ -1,5 +1,5 @@
-// The C function of the placing on scenes that are lent in bytes (`rt staticlib byte_entries`): little-endian words and
-// floats.
+// The C function of the placing on scenes that are lent in bytes, as little-endian words and floats; include/mesh3d.h
+// declares it.
 mod scenes;
 
-pub use scenes::place;
+pub use scenes::mesh3d_place;

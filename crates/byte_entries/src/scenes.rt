@@ -97,7 +97,7 @@ fn place_decoded(
 // is lent. The code of a node's place and its world are left in numbers and in bytes, and there are as many world slots
 // as both have. Answers 1, 2, 6 or 0, and the entries taken.
 #[no_mangle]
-pub extern "C" fn place(
+pub extern "C" fn mesh3d_place(
     words: &[u8],
     floats: &[u8],
     node_weights: &[u8],

@@ -9,7 +9,7 @@ ghost use Rattle.borrowed.specs.Written.{Answers};
 
 // The inverse transpose of the linear part.
 #[no_mangle]
-pub extern "C" fn scene_linear_inverse_transpose(m: &[f32; 16], out: &mut [f32; 9]) -> u32
+pub extern "C" fn mesh3d_linear_inverse_transpose(m: &[f32; 16], out: &mut [f32; 9]) -> u32
     ensures { λ r. ⌜ Answers (inverseTranspose (now (m .entry))) out r ⌝ }
 {
     let m = *m;
@@ -34,7 +34,7 @@ pub extern "C" fn scene_linear_inverse_transpose(m: &[f32; 16], out: &mut [f32; 
 
 // The inverse of an affine matrix.
 #[no_mangle]
-pub extern "C" fn scene_mat4_affine_inverse(m: &[f32; 16], out: &mut [f32; 16]) -> u32
+pub extern "C" fn mesh3d_mat4_affine_inverse(m: &[f32; 16], out: &mut [f32; 16]) -> u32
     ensures { λ r. ⌜ Answers (affineInverse (now (m .entry))) out r ⌝ }
 {
     let m = *m;
@@ -66,7 +66,7 @@ pub extern "C" fn scene_mat4_affine_inverse(m: &[f32; 16], out: &mut [f32; 16]) 
 
 // The linear part of the inverse, transposed.
 #[no_mangle]
-pub extern "C" fn scene_normal_matrix(m: &[f32; 16], out: &mut [f32; 9]) -> u32
+pub extern "C" fn mesh3d_normal_matrix(m: &[f32; 16], out: &mut [f32; 9]) -> u32
     ensures { λ r. ⌜ Answers (normalMatrix (now (m .entry))) out r ⌝ }
 {
     let m = *m;

@@ -11,7 +11,7 @@ ghost use Rattle.borrowed.specs.Written.{Writes};
 
 // The root of each x.
 #[no_mangle]
-pub extern "C" fn sqrt_all(xs: &[f32], out: &mut [f32]) -> usize
+pub extern "C" fn mesh3d_sqrt_all(xs: &[f32], out: &mut [f32]) -> usize
     ensures { λ r. ⌜ Writes (map (sqrtOf binary32) (now (xs .entry))) out r ⌝ }
 {
     let n = wire::least(xs.len(), out.len());
@@ -25,7 +25,7 @@ pub extern "C" fn sqrt_all(xs: &[f32], out: &mut [f32]) -> usize
 
 // Each x narrowed.
 #[no_mangle]
-pub extern "C" fn narrow_all(xs: &[f64], out: &mut [f32]) -> usize
+pub extern "C" fn mesh3d_narrow_all(xs: &[f64], out: &mut [f32]) -> usize
     ensures { λ r. ⌜ Writes (map narrowOf (now (xs .entry))) out r ⌝ }
 {
     let n = wire::least(xs.len(), out.len());
@@ -39,7 +39,7 @@ pub extern "C" fn narrow_all(xs: &[f64], out: &mut [f32]) -> usize
 
 // The turn weight at each v and c.
 #[no_mangle]
-pub extern "C" fn turn_weight_all(vs: &[f32], cs: &[f32], out: &mut [f32]) -> usize
+pub extern "C" fn mesh3d_turn_weight_all(vs: &[f32], cs: &[f32], out: &mut [f32]) -> usize
     ensures { λ r. ⌜ Writes (zipWith weight (now (vs .entry)) (now (cs .entry))) out r ⌝ }
 {
     let n = wire::least(wire::least(vs.len(), cs.len()), out.len());
@@ -53,7 +53,7 @@ pub extern "C" fn turn_weight_all(vs: &[f32], cs: &[f32], out: &mut [f32]) -> us
 
 // The root of each x, and whether all are normal.
 #[no_mangle]
-pub extern "C" fn sqrt_block(xs: &[f32; 16], out: &mut [f32; 16]) -> bool
+pub extern "C" fn mesh3d_sqrt_block(xs: &[f32; 16], out: &mut [f32; 16]) -> bool
     ensures { λ r. ⌜ (now (out .exit) ≡ map (sqrtOf binary32) (now (xs .entry))) × (r ≡ allNormal (now (xs .entry))) ⌝ }
 {
     let of = *xs;

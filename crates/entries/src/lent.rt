@@ -10,7 +10,7 @@ ghost use Rattle.worlds.specs.Placed.{NodesPlaced};
 
 // 1, 2 or 0: what the tables draw, over all that is lent.
 #[no_mangle]
-pub extern "C" fn tables_number(
+pub extern "C" fn mesh3d_tables_number(
     words: &[u32],
     floats: &[f32],
     node_weights: &[f32],
@@ -25,7 +25,7 @@ pub extern "C" fn tables_number(
 // The mark of each node, written to the start of `out`: 0 for none, 1 for a root, p + 3 where node p lists it. Answers
 // 1, 2, 10 or 0.
 #[no_mangle]
-pub extern "C" fn parents(
+pub extern "C" fn mesh3d_parents(
     words: &[u32],
     floats: &[f32],
     node_weights: &[f32],
@@ -40,7 +40,7 @@ pub extern "C" fn parents(
 
 // Where every node stands in a given pose. Answers 1, 2, 6 or 0, and the entries taken.
 #[no_mangle]
-pub extern "C" fn place_floats(
+pub extern "C" fn mesh3d_place_floats(
     words: &[u32],
     floats: &[f32],
     node_weights: &[f32],
@@ -71,7 +71,7 @@ pub extern "C" fn place_floats(
 
 // The pose of every node at a time, in lent slots of four words and ten floats. Answers 1, 2, 3, 5, 6 or 0.
 #[no_mangle]
-pub extern "C" fn sample_pose(
+pub extern "C" fn mesh3d_sample_pose(
     words: &[u32],
     floats: &[f32],
     node_weights: &[f32],

@@ -68,7 +68,7 @@ fn trs_of(translation: [f32; 3], rotation: [f32; 4], scale: [f32; 3]) -> Trs
 
 // The length of v.
 #[no_mangle]
-pub extern "C" fn scene_vec3_len(v: &[f32; 3]) -> f32
+pub extern "C" fn mesh3d_vec3_len(v: &[f32; 3]) -> f32
     ensures { λ r. ⌜ r ≡ norm (now (v .entry)) ⌝ }
 {
     let v = *v;
@@ -77,7 +77,7 @@ pub extern "C" fn scene_vec3_len(v: &[f32; 3]) -> f32
 
 // v divided by its length, and 1; where there is no such direction, 0.
 #[no_mangle]
-pub extern "C" fn scene_normalize3(v: &[f32; 3], out: &mut [f32; 3]) -> u32
+pub extern "C" fn mesh3d_normalize3(v: &[f32; 3], out: &mut [f32; 3]) -> u32
     ensures { λ r. ⌜ Answers (normalized (now (v .entry))) out r ⌝ }
 {
     let v = *v;
@@ -92,7 +92,7 @@ pub extern "C" fn scene_normalize3(v: &[f32; 3], out: &mut [f32; 3]) -> u32
 
 // l times v.
 #[no_mangle]
-pub extern "C" fn scene_mul3(l: &[f32; 9], v: &[f32; 3], out: &mut [f32; 3])
+pub extern "C" fn mesh3d_mul3(l: &[f32; 9], v: &[f32; 3], out: &mut [f32; 3])
     ensures { λ _. ⌜ now (out .exit) ≡ turned (now (l .entry)) (now (v .entry)) ⌝ }
 {
     let l = *l;
@@ -102,7 +102,7 @@ pub extern "C" fn scene_mul3(l: &[f32; 9], v: &[f32; 3], out: &mut [f32; 3])
 }
 
 #[no_mangle]
-pub extern "C" fn scene_identity(out: &mut [f32; 16])
+pub extern "C" fn mesh3d_identity(out: &mut [f32; 16])
     ensures { λ _. ⌜ now (out .exit) ≡ identity ⌝ }
 {
     let r = scene::identity();
@@ -112,7 +112,7 @@ pub extern "C" fn scene_identity(out: &mut [f32; 16])
 
 // a times b.
 #[no_mangle]
-pub extern "C" fn scene_mat4_mul(a: &[f32; 16], b: &[f32; 16], out: &mut [f32; 16])
+pub extern "C" fn mesh3d_mat4_mul(a: &[f32; 16], b: &[f32; 16], out: &mut [f32; 16])
     ensures { λ _. ⌜ now (out .exit) ≡ mul (now (a .entry)) (now (b .entry)) ⌝ }
 {
     let a = *a;
@@ -124,7 +124,7 @@ pub extern "C" fn scene_mat4_mul(a: &[f32; 16], b: &[f32; 16], out: &mut [f32; 1
 
 // m plus w times n.
 #[no_mangle]
-pub extern "C" fn scene_mat4_madd(m: &[f32; 16], w: f32, n: &[f32; 16], out: &mut [f32; 16])
+pub extern "C" fn mesh3d_mat4_madd(m: &[f32; 16], w: f32, n: &[f32; 16], out: &mut [f32; 16])
     ensures { λ _. ⌜ now (out .exit) ≡ now (m .entry) ⊞ w ⊙ now (n .entry) ⌝ }
 {
     let m = *m;
@@ -136,7 +136,7 @@ pub extern "C" fn scene_mat4_madd(m: &[f32; 16], w: f32, n: &[f32; 16], out: &mu
 
 // The first three rows and columns.
 #[no_mangle]
-pub extern "C" fn scene_linear_part(m: &[f32; 16], out: &mut [f32; 9])
+pub extern "C" fn mesh3d_linear_part(m: &[f32; 16], out: &mut [f32; 9])
     ensures { λ _. ⌜ now (out .exit) ≡ linear (now (m .entry)) ⌝ }
 {
     let m = *m;
@@ -156,7 +156,7 @@ pub extern "C" fn scene_linear_part(m: &[f32; 16], out: &mut [f32; 9])
 
 // The determinant of the linear part.
 #[no_mangle]
-pub extern "C" fn scene_linear_det(m: &[f32; 16]) -> f32
+pub extern "C" fn mesh3d_linear_det(m: &[f32; 16]) -> f32
     ensures { λ r. ⌜ r ≡ determinant (now (m .entry)) ⌝ }
 {
     let m = *m;
@@ -165,7 +165,7 @@ pub extern "C" fn scene_linear_det(m: &[f32; 16]) -> f32
 
 // The first three rows of m times p.
 #[no_mangle]
-pub extern "C" fn scene_affine_point(m: &[f32; 16], p: &[f32; 3], out: &mut [f32; 3])
+pub extern "C" fn mesh3d_affine_point(m: &[f32; 16], p: &[f32; 3], out: &mut [f32; 3])
     ensures { λ _. ⌜ now (out .exit) ≡ affinePoint (now (m .entry)) (now (p .entry)) ⌝ }
 {
     let m = *m;
@@ -176,7 +176,7 @@ pub extern "C" fn scene_affine_point(m: &[f32; 16], p: &[f32; 3], out: &mut [f32
 
 // m times p, with the perspective division.
 #[no_mangle]
-pub extern "C" fn scene_transform_point(m: &[f32; 16], p: &[f32; 3], out: &mut [f32; 3])
+pub extern "C" fn mesh3d_transform_point(m: &[f32; 16], p: &[f32; 3], out: &mut [f32; 3])
     ensures { λ _. ⌜ now (out .exit) ≡ transformedPoint (now (m .entry)) (now (p .entry)) ⌝ }
 {
     let m = *m;
@@ -187,7 +187,7 @@ pub extern "C" fn scene_transform_point(m: &[f32; 16], p: &[f32; 3], out: &mut [
 
 // The matrix of a translation, a rotation and a scale.
 #[no_mangle]
-pub extern "C" fn scene_trs_to_matrix(
+pub extern "C" fn mesh3d_trs_to_matrix(
     translation: &[f32; 3],
     rotation: &[f32; 4],
     scale: &[f32; 3],
@@ -221,7 +221,7 @@ fn transform_of(
 
 // The matrix of a transform: of the parts where the mark is 0, else m.
 #[no_mangle]
-pub extern "C" fn scene_to_matrix(
+pub extern "C" fn mesh3d_to_matrix(
     mark: u32,
     translation: &[f32; 3],
     rotation: &[f32; 4],
@@ -243,7 +243,7 @@ pub extern "C" fn scene_to_matrix(
 
 // The quaternion of a rotation by its columns.
 #[no_mangle]
-pub extern "C" fn scene_rot_matrix_to_quat(
+pub extern "C" fn mesh3d_rot_matrix_to_quat(
     a: &[f32; 3],
     b: &[f32; 3],
     c: &[f32; 3],
@@ -260,7 +260,7 @@ pub extern "C" fn scene_rot_matrix_to_quat(
 
 // A matrix split into translation, rotation and scale.
 #[no_mangle]
-pub extern "C" fn scene_from_matrix(
+pub extern "C" fn mesh3d_from_matrix(
     m: &[f32; 16],
     translation: &mut [f32; 3],
     rotation: &mut [f32; 4],

@@ -1,4 +1,4 @@
-// The C functions on skins and morph weights of a lent scene; include/skin_entries.h declares them.
+// The C functions on skins and morph weights of a lent scene; include/mesh3d.h declares them.
 use skin::Answer;
 use skin_roots::Root;
 use tables::Header;
@@ -10,7 +10,7 @@ ghost use Rattle.skin_entries.specs.Handed.{Weighed};
 
 // Writes the palette of a node, from worlds that are given, to the start of `out`. Answers 1, 2, 6, 7, 9, 10 or 0.
 #[no_mangle]
-pub extern "C" fn joint_matrices_floats(
+pub extern "C" fn mesh3d_joint_matrices_floats(
     words: &[u32],
     floats: &[f32],
     node_weights: &[f32],
@@ -39,7 +39,7 @@ pub extern "C" fn joint_matrices_floats(
 
 // The root of a skin. Answers 1, 2, 11 or 0, and the node.
 #[no_mangle]
-pub extern "C" fn skin_root(
+pub extern "C" fn mesh3d_skin_root(
     words: &[u32],
     floats: &[f32],
     node_weights: &[f32],
@@ -55,7 +55,7 @@ pub extern "C" fn skin_root(
 // Copies the weights that a node's mesh is blended with to the start of `out`. Answers 1, 2, 7, 10 or 0, and how many
 // floats were copied.
 #[no_mangle]
-pub extern "C" fn effective_weights_floats<'a>(
+pub extern "C" fn mesh3d_effective_weights_floats<'a>(
     words: &[u32],
     floats: &[f32],
     node_weights: &'a [f32],

@@ -123,7 +123,7 @@ fn sample_over(
 // decoded to the start of `room`, and 6 is answered where that has fewer floats; where 1 to 6 is answered it stays as
 // lent.
 #[no_mangle]
-pub extern "C" fn sample(
+pub extern "C" fn mesh3d_sample(
     table: &[u8],
     kind: u32,
     interpolation: u32,

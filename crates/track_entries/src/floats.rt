@@ -102,7 +102,7 @@ fn sample_row(floats: &[f32], row: ChannelRow, time: f32, out: &mut [f32]) -> Sa
 // The value of a track at a time. A Vec3 or Quat is written to the start of `value`, the weights of a scalar track to
 // the start of `out`, and these are counted; otherwise both stay as lent.
 #[no_mangle]
-pub extern "C" fn sample_floats(
+pub extern "C" fn mesh3d_sample_floats(
     floats: &[f32],
     kind: u32,
     interpolation: u32,
@@ -160,7 +160,7 @@ fn frame_in<'a>(floats: &'a [f32], t: Track, rows: bool, k: usize) -> &'a [f32]
 // Copies the weights of frame k or, where the mark is not 0, all three rows, to the start of `out`. Where a number is
 // answered, nothing is changed.
 #[no_mangle]
-pub extern "C" fn frame_floats(
+pub extern "C" fn mesh3d_frame_floats(
     floats: &[f32],
     kind: u32,
     interpolation: u32,
@@ -201,7 +201,7 @@ pub extern "C" fn frame_floats(
 
 // The weights per frame of an even scalar track, and 0 of any other, or where the track draws 1 or 2.
 #[no_mangle]
-pub extern "C" fn stride_floats(
+pub extern "C" fn mesh3d_stride_floats(
     floats: &[f32],
     kind: u32,
     interpolation: u32,
@@ -229,7 +229,7 @@ pub extern "C" fn stride_floats(
 
 // 1 where every key is finite and above the one before, and otherwise 0.
 #[no_mangle]
-pub extern "C" fn keys_in_line_floats(keys: &[f32]) -> u32
+pub extern "C" fn mesh3d_keys_in_line_floats(keys: &[f32]) -> u32
     ensures { λ r. ⌜ r ≡ markOf (inLine (now (keys .entry))) ⌝ }
 {
     if tracks::keys_in_line(keys) {

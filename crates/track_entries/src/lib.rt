@@ -1,10 +1,10 @@
-// The C functions on tracks (`rt staticlib track_entries`).
+// The C functions on tracks; include/mesh3d.h declares them.
 mod bytes;
 mod floats;
 
-pub use bytes::sample;
+pub use bytes::mesh3d_sample;
 pub use floats::Told;
-pub use floats::frame_floats;
-pub use floats::keys_in_line_floats;
-pub use floats::sample_floats;
-pub use floats::stride_floats;
+pub use floats::mesh3d_frame_floats;
+pub use floats::mesh3d_keys_in_line_floats;
+pub use floats::mesh3d_sample_floats;
+pub use floats::mesh3d_stride_floats;
