@@ -1,0 +1,3 @@
+pub mod Firsts
+pub mod Lower
+pub mod AskedLaws
