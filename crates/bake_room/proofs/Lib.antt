@@ -1,0 +1,4 @@
+pub mod Counted
+pub mod Needed
+pub mod Judging
+pub mod Enough
