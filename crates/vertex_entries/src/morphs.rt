@@ -1,4 +1,3 @@
-// The C function of morphed vertices; include/mesh_entries.h declares it.
 use tables::Header;
 use tracks::Part;
 ghost use Rattle.borrowed.specs.InPlace.{InPlace};
@@ -8,7 +7,7 @@ ghost use Rattle.mesh.specs.Lent.{targetsIn};
 
 // Adds the targets of a part, at these weights, to vertices that lie in flat slices.
 #[no_mangle]
-pub extern "C" fn morphed_floats(
+pub extern "C" fn mesh3d_morphed_floats(
     words: &[u32],
     floats: &[f32],
     header: Header,
