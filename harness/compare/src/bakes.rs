@@ -5,11 +5,11 @@
 pub mod case;
 mod largest;
 mod on_bytes;
+mod rooms;
 mod sorts;
 pub mod speed;
 
 use crate::{
-    port::Tables,
     pose::{fit, Moved},
     rng::Rng,
     tables::{
@@ -21,6 +21,7 @@ use crate::{
     tally::{Met, Tally},
 };
 use case::{is_turn, Case, Lens, LENT};
+use mesh3d::raw::Scene;
 use oracle::{Animation, Interpolation, Scene3D};
 use sorts::SORTS;
 
@@ -81,6 +82,7 @@ struct Comparison {
     short: Met<{ LENT.len() }>,
     refused: Met<{ NUMBERS.len() }>,
     on_bytes: on_bytes::Comparison,
+    rooms: rooms::Comparison,
 }
 
 impl Comparison {
@@ -92,6 +94,7 @@ impl Comparison {
             short: Met::new(LENT),
             refused: Met::new(["1", "2", "3", "5", "6", "7", "8", "9", "10"]),
             on_bytes: on_bytes::Comparison::new(),
+            rooms: rooms::Comparison::new(),
         }
     }
 
@@ -146,7 +149,8 @@ impl Comparison {
     fn count_nodes(&mut self, case: &Case, rng: &mut Rng) {
         for node in ids(case.scene.nodes.len() as u32, rng) {
             let enough = case.lens(node).map(|len| len + rng.below(20) as usize);
-            self.count(case, node, enough);
+            let number = self.count(case, node, enough);
+            self.rooms.count(case, node, number);
             for (of, len) in case.lens(node).into_iter().enumerate() {
                 if let Some(less) = len.checked_sub(1) {
                     let mut lens = enough;
@@ -165,18 +169,20 @@ impl Comparison {
         leaving.header.graph.roots.at = lent.words.len() + 1;
         let mut words = lent.words.to_vec();
         words[lent.header.graph.nodes.at + MESH_MARK] = 2;
-        let marked = Tables {
+        let marked = Scene {
             words: &words,
             ..lent
         };
         for lent in [leaving, marked] {
             let faulty = Case::new(case.scene, case.moved, lent, case.time);
-            self.count(&faulty, 0, case.lens(0));
+            let number = self.count(&faulty, 0, case.lens(0));
+            self.rooms.count(&faulty, 0, number);
             self.count(&faulty, 0, [0; LENT.len()]);
         }
     }
 
-    fn count(&mut self, case: &Case, node: u32, lens: Lens) {
+    /// Answers the number that is expected.
+    fn count(&mut self, case: &Case, node: u32, lens: Lens) -> u32 {
         let (rust, port) = (case.expected(node, lens), case.bake(node, lens));
         match NUMBERS.iter().position(|number| *number == rust.0.number) {
             Some(k) => {
@@ -193,6 +199,7 @@ impl Comparison {
             let (asked, scene) = (format!("node {node} with {lens:?}"), shown(case.scene));
             format!("{asked}, Rust {rust:x?}, port {port:x?}, of {scene}")
         });
+        rust.0.number
     }
 
     fn report(&self) -> bool {
@@ -211,13 +218,14 @@ impl Comparison {
             self.short.report(),
             self.refused.report(),
             self.on_bytes.report(),
+            self.rooms.report(),
         ];
         !all.contains(&false)
     }
 }
 
 /// Whether a bake, on numbers and on bytes, is accepted in the stack that
-/// include/entries.h names.
+/// include/mesh3d.h names.
 fn is_baked_in_small_stack(case: &Case) -> bool {
     let bake = || {
         let lens = case.lens(0);

@@ -11,13 +11,13 @@ pub mod speed;
 
 use crate::{
     placing,
-    port::Tables,
     rng::Rng,
     tables::{build::lend, generate::scene, layout::Layout, numbers::number},
     tally::{Met, Tally},
 };
 use answers::Answers;
 use case::{Case, LENT};
+use mesh3d::raw::Scene;
 use oracle::{Animation, Scene3D};
 use poses::Posed;
 use sorts::{sorts, SORTS};
@@ -158,7 +158,7 @@ impl Comparison {
         leaving.header.graph.roots.at = lent.words.len() + 1;
         let mut words = lent.words.to_vec();
         words[lent.header.graph.nodes.at + MESH_MARK] = 2;
-        let marked = Tables {
+        let marked = Scene {
             words: &words,
             ..lent
         };

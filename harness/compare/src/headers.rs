@@ -1,6 +1,7 @@
-//! The C headers of include/ beside the exported functions of the crates: each
-//! function is declared once, with the same types of parameters and result. A
-//! slice is a pointer and a length, and a struct is compared field by field.
+//! The C header beside the exported functions of the crates, and those of
+//! c/text.c: each function is declared once, with the same types of parameters
+//! and result, and its name has the prefix. A slice is a pointer and a length,
+//! and a struct is compared field by field.
 
 mod declared;
 mod exported;
@@ -17,18 +18,22 @@ const ROOT: &str = concat!(env!("CARGO_MANIFEST_DIR"), "/../..");
 type Signature = Vec<String>;
 type Functions = BTreeMap<String, Signature>;
 
+const PREFIX: &str = "mesh3d_";
+
 pub fn compare() -> bool {
-    let (declared, exported) = (declared::functions(), exported::functions());
+    let [declared, texts] = declared::functions();
+    let mut exported = exported::functions();
+    exported.extend(texts);
     let names: BTreeSet<&String> = declared.keys().chain(exported.keys()).collect();
     let mut differing = 0;
     for name in &names {
         let (header, source) = (declared.get(*name), exported.get(*name));
-        if header != source {
+        if header != source || !name.starts_with(PREFIX) {
             differing += 1;
             println!("  {name}: declared {header:?}, exported {source:?}");
         }
     }
-    println!("headers: {} functions, {differing} differ", names.len());
+    println!("header: {} functions, {differing} differ", names.len());
     differing == 0 && !names.is_empty()
 }
 

@@ -2,10 +2,11 @@
 //! share.
 
 use crate::{
-    port::{ByteTables, Decoding, Header, Part, Tables},
     rng::Rng,
+    rooms::Decoding,
     tally::{one_nan_bits, UNTOUCHED},
 };
+use mesh3d::raw::{ByteScene, Header, Part, Scene};
 
 /// Of words, and of each slice of floats, more than a small scene has.
 const LONG_WORDS: usize = 40_000;
@@ -35,19 +36,19 @@ fn tables(header: &mut Header) -> [(&mut Part, usize); 9] {
 
 /// Each slice of the scene longer; and of the longer words, each table one word
 /// past their end.
-pub fn in_long_slices(lent: Tables, mut count: impl FnMut(Tables)) {
+pub fn in_long_slices(lent: Scene, mut count: impl FnMut(Scene)) {
     let mut words = lent.words.to_vec();
     let mut floats = lent.floats.to_vec();
     words.resize(LONG_WORDS, 7);
     floats.resize(LONG_FLOATS, 0.5);
     let (words, floats) = (&words, &floats);
-    count(Tables { words, ..lent });
-    count(Tables { floats, ..lent });
-    count(Tables {
+    count(Scene { words, ..lent });
+    count(Scene { floats, ..lent });
+    count(Scene {
         node_weights: floats,
         ..lent
     });
-    count(Tables {
+    count(Scene {
         mesh_weights: floats,
         ..lent
     });
@@ -55,7 +56,7 @@ pub fn in_long_slices(lent: Tables, mut count: impl FnMut(Tables)) {
         let mut header = lent.header;
         let (part, width) = &mut tables(&mut header)[k];
         part.at = words.len() + 1 - part.count * *width;
-        count(Tables {
+        count(Scene {
             words,
             header,
             ..lent
@@ -64,13 +65,13 @@ pub fn in_long_slices(lent: Tables, mut count: impl FnMut(Tables)) {
 }
 
 /// The floats of a scene, in the order in which they are decoded.
-fn all_floats(lent: &Tables) -> Vec<f32> {
+fn all_floats(lent: &Scene) -> Vec<f32> {
     [lent.floats, lent.node_weights, lent.mesh_weights].concat()
 }
 
 impl Decoding {
     /// Room for a scene.
-    pub fn enough(lent: &Tables) -> Self {
+    pub fn enough(lent: &Scene) -> Self {
         Decoding {
             words: vec![0; lent.words.len()],
             floats: vec![0.0; all_floats(lent).len()],
@@ -78,7 +79,7 @@ impl Decoding {
     }
 
     /// Room for a scene: as a rule enough, at times one word or float too few.
-    pub fn lent(lent: &Tables, rng: &mut Rng) -> Self {
+    pub fn lent(lent: &Scene, rng: &mut Rng) -> Self {
         let mut lens = [lent.words.len(), all_floats(lent).len()];
         let of = rng.below(2) as usize;
         lens[of] = match rng.below(8) {
@@ -91,12 +92,12 @@ impl Decoding {
         }
     }
 
-    pub fn is_short(&self, lent: &Tables) -> bool {
+    pub fn is_short(&self, lent: &Scene) -> bool {
         self.words.len() < lent.words.len() || self.floats.len() < all_floats(lent).len()
     }
 
     /// With the scene at its start.
-    pub fn put(&mut self, lent: &Tables) {
+    pub fn put(&mut self, lent: &Scene) {
         self.words[..lent.words.len()].copy_from_slice(lent.words);
         let floats = all_floats(lent);
         self.floats[..floats.len()].copy_from_slice(&floats);
@@ -120,7 +121,7 @@ pub struct Encoded {
 
 impl Encoded {
     /// With so many bytes past the last word of each slice.
-    pub fn of(lent: &Tables, odd: [usize; 4]) -> Self {
+    pub fn of(lent: &Scene, odd: [usize; 4]) -> Self {
         Encoded {
             words: encoded(lent.words.iter().copied(), odd[0]),
             floats: encoded(bits(lent.floats), odd[1]),
@@ -130,8 +131,8 @@ impl Encoded {
         }
     }
 
-    pub fn lent(&self) -> ByteTables<'_> {
-        ByteTables {
+    pub fn lent(&self) -> ByteScene<'_> {
+        ByteScene {
             words: &self.words,
             floats: &self.floats,
             node_weights: &self.node_weights,

@@ -13,11 +13,12 @@
 //!                                 scenes those for crates/replay_scenes
 //! ```
 //!
-//! ORACLE_SRC names the folder of the Rust's source and PORT_LIB_DIR that of
-//! the port's libraries, where they are not in their usual places (see the
-//! build scripts).
+//! ORACLE_SRC names the folder of the Rust's source and MESH3D_LIB_DIR that of
+//! the port's library, where they are not in their usual places (see the build
+//! scripts of oracle and of rust/).
 
 mod bakes;
+mod clock;
 mod graph;
 mod headers;
 mod in_bytes;
@@ -27,9 +28,9 @@ mod matrices;
 mod measure;
 mod morphs;
 mod placing;
-mod port;
 mod pose;
 mod rng;
+mod rooms;
 mod sampling;
 mod skins;
 mod tables;

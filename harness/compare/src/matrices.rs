@@ -10,10 +10,8 @@ mod vertices;
 
 pub use inverses::nearly_affine;
 
-use crate::{
-    port::{Mat3, Mat4, Quat, Vec3},
-    tally::UNTOUCHED,
-};
+use crate::tally::UNTOUCHED;
+use mesh3d::raw::{Mat3, Mat4, Quat, Vec3};
 
 /// Runs every comparison, even after one that differs.
 pub fn compare() -> bool {

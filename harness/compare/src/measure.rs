@@ -1,7 +1,7 @@
 //! Timing of the port beside the Rust: CPU time, both sides in turn within one
 //! run, so that a slow moment of the machine meets both.
 
-use crate::port::{cpu_time, keep_heap};
+use crate::clock::{cpu_time, keep_heap};
 
 const ROUNDS: usize = 41;
 /// CPU time of one side in one round, in nanoseconds.

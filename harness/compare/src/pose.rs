@@ -6,12 +6,12 @@
 //! the turn without length.
 
 mod moved;
+mod passed_over;
 pub mod speed;
 
 pub use moved::{fit, Moved};
 
 use crate::{
-    port,
     rng::Rng,
     sampling::{
         bits, same_bits,
@@ -26,6 +26,7 @@ use crate::{
     },
     tally::{Met, Tally, UNTOUCHED},
 };
+use mesh3d::raw;
 use moved::{node_of, Fate};
 use oracle::{AnimationProperty, AnimationTarget};
 use std::array::from_fn;
@@ -85,7 +86,7 @@ impl Answer {
     fn of_port(lent: &Lent, time: f32, marks: usize, slots: usize) -> Self {
         let mut answer = Answer::refused(0, marks, slots);
         let (marks, slots) = (&mut answer.marks, &mut answer.slots);
-        answer.number = port::sample_pose(&lent.of_port(), time, marks, slots);
+        answer.number = raw::sample_pose(&lent.of_port(), time, marks, slots);
         answer
     }
 
@@ -120,6 +121,7 @@ struct Comparison {
     turns: Met<3>,
     rooms: Met<3>,
     refused: Met<3>,
+    passed_over: passed_over::Comparison,
 }
 
 impl Comparison {
@@ -143,6 +145,7 @@ impl Comparison {
             turns: Met::new(["straight turns", "turns", "left to the proof"]),
             rooms: Met::new(["more than the nodes", "short words", "short floats"]),
             refused: Met::new(["with 3", "with 5", "with 6"]),
+            passed_over: passed_over::Comparison::new(),
         }
     }
 
@@ -156,6 +159,7 @@ impl Comparison {
                 let port = Answer::of_port(lent, time, marks, slots);
                 let rust = Answer::refused(number, marks, slots);
                 self.count(moved, time, rust, &port);
+                self.passed_over.count(moved, lent, time);
             }
         }
     }
@@ -261,6 +265,7 @@ impl Comparison {
             self.given.report(),
             self.turns.report(),
             self.refused.report(),
+            self.passed_over.report(),
         ];
         !equal.contains(&false)
     }

@@ -9,12 +9,12 @@ pub mod worlds;
 
 use crate::{
     graph::no_animation,
-    port::Tables,
     rng::Rng,
     tables::{build::lend, generate::scene, layout::Layout},
     tally::{Met, Tally},
 };
 use case::{Case, Lens};
+use mesh3d::raw::Scene;
 use oracle::Scene3D;
 use sorts::{LISTINGS, PALETTES, ROOTS, WEIGHTS};
 use worlds::{Worlds, MORE_SLOTS};
@@ -193,7 +193,7 @@ impl Comparison {
         leaving.header.graph.roots.at = lent.words.len() + 1;
         let mut words = lent.words.to_vec();
         words[lent.header.graph.nodes.at + MESH_MARK] = 2;
-        let marked = Tables {
+        let marked = Scene {
             words: &words,
             ..lent
         };

@@ -3,11 +3,12 @@
 
 use crate::{
     graph::answers::Answers,
-    port::{self, BakeRoom, Baked, Tables},
     pose::Moved,
+    rooms::BakeRoom,
     tables::numbers::number,
     tally::{one_nan_bits, UNTOUCHED},
 };
+use mesh3d::raw::{self, Baked, Scene};
 use oracle::{AnimationChannel, AnimationValues, Interpolation, Mesh, NodeId, Pose, Scene3D};
 use std::array::from_fn;
 
@@ -36,7 +37,7 @@ const SHORT_OUTPUT: u32 = 10;
 pub struct Case<'a> {
     pub scene: &'a Scene3D,
     pub moved: &'a Moved,
-    pub lent: Tables<'a>,
+    pub lent: Scene<'a>,
     /// What the tables draw.
     drawn: u32,
     pub time: f32,
@@ -51,7 +52,7 @@ pub struct Case<'a> {
 type Left = (Baked, [Vec<u32>; LENT.len()]);
 
 impl<'a> Case<'a> {
-    pub fn new(scene: &'a Scene3D, moved: &'a Moved, lent: Tables<'a>, time: f32) -> Self {
+    pub fn new(scene: &'a Scene3D, moved: &'a Moved, lent: Scene<'a>, time: f32) -> Self {
         let mut pose = moved.animation.sample_pose(time, scene.nodes.len());
         let has_turns = moved.animation.channels.iter().any(is_turn);
         if has_turns {
@@ -86,7 +87,7 @@ impl<'a> Case<'a> {
 
     pub fn bake(&self, node: u32, lens: Lens) -> Left {
         let mut room = room(lens);
-        let baked = port::bake(&self.lent, node, self.time, &mut room);
+        let baked = room.bake(&self.lent, node, self.time);
         (baked, bits_of(&room))
     }
 
@@ -175,7 +176,7 @@ impl<'a> Case<'a> {
 
     /// The pose as `sample_pose` leaves it, and the Rust's placing.
     fn put_scratch(&self, room: &mut BakeRoom) {
-        let number = port::sample_pose(&self.lent, self.time, &mut room.marks, &mut room.slots);
+        let number = raw::sample_pose(&self.lent, self.time, &mut room.marks, &mut room.slots);
         assert_eq!(number, 0, "a pose that can be sampled");
         room.walk.fill(0);
         let (places, worlds) = (&self.answers.places, &self.answers.worlds);
@@ -204,10 +205,10 @@ pub fn is_turn(channel: &AnimationChannel) -> bool {
 }
 
 /// The port's, where it gives a pose.
-fn take_rotations(pose: &mut Pose, lent: &Tables, time: f32) {
+fn take_rotations(pose: &mut Pose, lent: &Scene, time: f32) {
     let nodes = pose.node_count();
     let (mut marks, mut slots) = (vec![0; 4 * nodes], vec![0.0; 10 * nodes]);
-    if port::sample_pose(lent, time, &mut marks, &mut slots) == 0 {
+    if raw::sample_pose(lent, time, &mut marks, &mut slots) == 0 {
         for (node, rotation) in pose.rotations.iter_mut().enumerate() {
             let is_posed = marks[4 * node + 1] != 0;
             *rotation = is_posed.then(|| from_fn(|k| slots[10 * node + 3 + k]));

@@ -10,10 +10,11 @@ use super::{
 };
 use crate::{
     in_bytes::{in_long_slices, put, Encoded, LENT_BYTE},
-    port::{self, BakeRoom, Baked, ByteOutputs, Decoding},
     rng::Rng,
+    rooms::{BakeRoom, ByteOutputs, Decoding},
     tally::{one_nan_bits, Met, Tally},
 };
+use mesh3d::raw::Baked;
 use std::array::from_fn;
 
 /// Of the cases that are refused, one in so many.
@@ -170,7 +171,7 @@ impl Lent {
 
 fn of_floats(case: &Case, node: u32, lens: Lens, lent: &Lent) -> Left {
     let mut left = room(lens);
-    let mut told = port::bake(&case.lent, node, case.time, &mut left);
+    let mut told = left.bake(&case.lent, node, case.time);
     let is_early = (1..=SHORT_SCRATCH).contains(&told.number);
     if lent.decoding.is_short(&case.lent) && !is_early {
         told = Baked {
@@ -237,7 +238,7 @@ fn of_bytes(case: &Case, node: u32, lens: Lens, lent: &Lent, odd: [usize; 4]) ->
     let mut room = room(lent.lens(lens));
     let mut outputs = lent.outputs();
     let asked = (node, case.time.to_bits());
-    let told = port::bake_bytes(&scene.lent(), asked, &mut decoding, &mut room, &mut outputs);
+    let told = room.bake_bytes(&scene.lent(), asked, &mut decoding, &mut outputs);
     Left {
         told,
         decoding: decoding.bits(),

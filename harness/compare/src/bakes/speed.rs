@@ -7,9 +7,9 @@ use crate::{
     graph::{no_animation, scenes::tree},
     in_bytes::Encoded,
     measure::side_by_side,
-    port::{self, ByteOutputs, Decoding},
     pose::Moved,
     rng::Rng,
+    rooms::{ByteOutputs, Decoding},
     sampling::speed::vectors,
     tables::{build::lend, layout::Layout},
 };
@@ -124,7 +124,7 @@ fn measure_scene(name: &str, results: usize, scene: &Scene3D, animation: &Animat
     let moved = Moved::new(scene, animation.clone(), &mut Rng::new(1));
     let case = Case::new(scene, &moved, lent.of_port(), 1.0);
     let mut room = room(case.lens(0));
-    let mut bake = || port::bake(black_box(&case.lent), 0, 1.0, black_box(&mut room));
+    let mut bake = || black_box(&mut room).bake(black_box(&case.lent), 0, 1.0);
     assert_eq!(bake().number, 0, "the speed of a refusal");
     side_by_side(
         name,
@@ -157,7 +157,7 @@ fn measure_bytes(name: &str, results: usize, scene: &Scene3D) {
     let tables = encoded.lent();
     let mut bake = || {
         let tables = black_box(&tables);
-        port::bake_bytes(tables, asked, &mut decoding, &mut room, &mut outputs)
+        room.bake_bytes(tables, asked, &mut decoding, &mut outputs)
     };
     assert_eq!(bake().number, 0, "the speed of a refusal");
     side_by_side(

@@ -2,10 +2,8 @@
 //! what is too short for them.
 
 use super::{answers::Answers, poses::Posed};
-use crate::{
-    port::{self, Placed, Tables},
-    tally::{one_nan_bits, UNTOUCHED},
-};
+use crate::tally::{one_nan_bits, UNTOUCHED};
+use mesh3d::raw::{self, Placed, Scene};
 
 /// What is lent to `place_floats` beside the tables.
 pub const LENT: [&str; 5] = ["walk room", "pose marks", "pose floats", "places", "worlds"];
@@ -14,7 +12,7 @@ const SHORT_SCRATCH: u32 = 6;
 const SHORT_OUTPUT: u32 = 10;
 
 pub struct Case<'a> {
-    pub lent: Tables<'a>,
+    pub lent: Scene<'a>,
     pub posed: &'a Posed,
     pub answers: &'a Answers,
 }
@@ -39,7 +37,7 @@ impl Case<'_> {
     /// With so many slots more than nodes.
     pub fn run_parents(&self, more: usize) -> (u32, Vec<u32>) {
         let mut out = filled(self.nodes() + more);
-        (port::parents(&self.lent, &mut out), out)
+        (raw::parents(&self.lent, &mut out), out)
     }
 
     pub fn is_parents_equal(&self, more: usize) -> bool {
@@ -56,7 +54,7 @@ impl Case<'_> {
 
     fn is_parents_refused(&self, number: u32, slots: usize) -> bool {
         let mut out = filled(slots);
-        port::parents(&self.lent, &mut out) == number && out == filled(slots)
+        raw::parents(&self.lent, &mut out) == number && out == filled(slots)
     }
 
     /// The lengths that suffice.
@@ -71,7 +69,7 @@ impl Case<'_> {
         let (marks, slots) = (&self.posed.marks[..marks], &self.posed.slots[..slots]);
         let (mut walk, mut places) = (filled(walk), filled(places));
         let mut worlds = vec![UNTOUCHED; worlds];
-        let answer = port::place_floats(
+        let answer = raw::place_floats(
             &self.lent,
             marks,
             slots,

@@ -7,10 +7,11 @@
 use super::case::{filled, Case, Room, LENT};
 use crate::{
     in_bytes::{in_long_slices, put, Encoded, LENT_BYTE},
-    port::{self, Decoding, PlaceRoom, Placed},
     rng::Rng,
+    rooms::{Decoding, PlaceRoom},
     tally::{one_nan_bits, Met, Tally, UNTOUCHED},
 };
+use mesh3d::raw::Placed;
 use std::array::from_fn;
 
 const SHORT_SCRATCH: u32 = 6;
@@ -165,12 +166,11 @@ fn of_bytes(case: &Case, lens: [usize; LENT.len()], lent: &Lent, odd: [usize; 4]
     let scene = Encoded::of(&case.lent, odd);
     let mut decoding = lent.decoding.clone();
     let mut room = lent.room();
-    let told = port::place(
+    let told = room.place(
         &scene.lent(),
         &mut decoding,
         &case.posed.marks[..lens[1]],
         &case.posed.slots[..lens[2]],
-        &mut room,
     );
     Answer::of(told, &decoding, room)
 }

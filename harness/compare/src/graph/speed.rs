@@ -4,13 +4,14 @@ use super::{answers::Answers, no_animation, poses::Posed, scenes::tree};
 use crate::{
     in_bytes::Encoded,
     measure::side_by_side,
-    port::{self, Decoding, PlaceRoom, Placed},
     rng::Rng,
+    rooms::{Decoding, PlaceRoom},
     tables::{
         build::lend,
         layout::{Layout, Lent},
     },
 };
+use mesh3d::raw::{self, Placed};
 use oracle::Scene3D;
 use std::hint::black_box;
 
@@ -33,7 +34,7 @@ fn measure_places(scene: &Scene3D, lent: &Lent) {
     let (mut places, mut worlds) = (vec![0; nodes], vec![0.0; 16 * nodes]);
     let lent = lent.of_port();
     let mut place = || {
-        port::place_floats(
+        raw::place_floats(
             black_box(&lent),
             &posed.marks,
             &posed.slots,
@@ -72,13 +73,8 @@ fn measure_bytes(scene: &Scene3D, lent: &Lent) {
         worlds: vec![0; 64 * nodes],
     };
     let mut place = || {
-        port::place(
-            black_box(&lent),
-            &mut decoding,
-            &posed.marks,
-            &posed.slots,
-            &mut room,
-        )
+        let lent = black_box(&lent);
+        room.place(lent, &mut decoding, &posed.marks, &posed.slots)
     };
     assert_eq!(place(), Placed { number: 0, taken });
     side_by_side(
@@ -97,12 +93,12 @@ fn measure_parents(scene: &Scene3D, lent: &Lent) {
     let nodes = scene.nodes.len();
     let mut out = vec![0; nodes];
     let lent = lent.of_port();
-    assert_eq!(port::parents(&lent, &mut out), 0, "the speed of a refusal");
+    assert_eq!(raw::parents(&lent, &mut out), 0, "the speed of a refusal");
     side_by_side(
         &format!("parents, nodes {nodes}"),
         nodes,
         || {
-            black_box(port::parents(black_box(&lent), &mut out));
+            black_box(raw::parents(black_box(&lent), &mut out));
         },
         || {
             black_box(black_box(scene).parents());

@@ -1,10 +1,12 @@
-//! The functions that the headers declare.
+//! The functions that the header declares, and those that c/text.c defines.
 
-use super::{enclosed, files, read, Functions, Signature, ROOT};
+use super::{enclosed, read, Functions, Signature, ROOT};
 use std::{collections::BTreeMap, path::Path};
 
-/// As written, with the names of structs in it: a header may use a struct that
-/// another one has, in whichever order they are read.
+const HEADER: &str = "include/mesh3d.h";
+const TEXTS: &str = "c/text.c";
+
+/// As written, with the names of structs in it.
 #[derive(Default)]
 struct Declarations {
     /// By name, the types of the fields.
@@ -12,19 +14,21 @@ struct Declarations {
     functions: Functions,
 }
 
-pub fn functions() -> Functions {
-    let mut declarations = Declarations::default();
-    for header in files(&Path::new(ROOT).join("include"), "h") {
-        declarations.read(&plain(&read(&header)));
-    }
-    let signature = |types: &Signature| -> Signature {
-        let types = types.iter().map(|name| declarations.resolved(name));
-        types.collect()
+/// Those of the header; then those of c/text.c.
+pub fn functions() -> [Functions; 2] {
+    let file = |name: &str| read(&Path::new(ROOT).join(name));
+    let mut header = Declarations::default();
+    header.read(&plain(&file(HEADER)));
+    let mut texts = Declarations {
+        structs: header.structs.clone(),
+        ..Declarations::default()
     };
-    let functions = declarations.functions.iter();
-    functions
-        .map(|(name, types)| (name.clone(), signature(types)))
-        .collect()
+    for line in file(TEXTS).lines() {
+        if line.ends_with(") {") && !line.starts_with([' ', '\t']) && !line.starts_with("static") {
+            texts.add_function(line);
+        }
+    }
+    [header.all(), texts.all()]
 }
 
 /// Without comments and lines of the preprocessor.
@@ -36,6 +40,7 @@ fn plain(text: &str) -> String {
         rest = comment.split_once("*/").expect("the end of a comment").1;
     }
     plain.push_str(rest);
+    let plain = plain.replace("\\\n", " ");
     let lines = plain.lines().filter(|line| !line.starts_with('#'));
     lines.collect::<Vec<_>>().join(" ")
 }
@@ -46,8 +51,17 @@ impl Declarations {
         while !rest.is_empty() {
             let behind = if rest.starts_with("typedef") {
                 self.add_struct(rest)
+            } else if rest.starts_with("enum") {
+                rest.split_once(';').expect("the end of an enum").1
+            } else if rest.starts_with("static inline") {
+                enclosed(rest, '{', '}').1
+            } else if let Some(behind) = rest.strip_prefix("extern \"C\" {") {
+                behind
+            } else if let Some(behind) = rest.strip_prefix('}') {
+                behind
             } else {
-                self.add_function(rest)
+                let behind = self.add_function(rest);
+                behind.trim_start().strip_prefix(';').expect("its end")
             };
             rest = behind.trim();
         }
@@ -68,13 +82,24 @@ impl Declarations {
     fn add_function<'a>(&mut self, text: &'a str) -> &'a str {
         let (parameters, behind) = enclosed(text, '(', ')');
         let head = text.split('(').next().expect("a function");
-        let name = head.split_whitespace().last().expect("a name");
+        let name = head.split([' ', '*']).next_back().expect("a name");
         let types = parameters.split(',').chain([head]);
         let twice = self
             .functions
             .insert(name.to_string(), types.map(type_of).collect());
         assert!(twice.is_none(), "{name} is declared twice");
-        behind.trim_start().strip_prefix(';').expect("its end")
+        behind
+    }
+
+    fn all(&self) -> Functions {
+        let signature = |types: &Signature| -> Signature {
+            let types = types.iter().map(|name| self.resolved(name));
+            types.collect()
+        };
+        let functions = self.functions.iter();
+        functions
+            .map(|(name, types)| (name.clone(), signature(types)))
+            .collect()
     }
 
     /// A type, with each struct in it by its fields.

@@ -2,10 +2,10 @@
 
 use super::roots::{gate_patterns, EDGES};
 use crate::{
-    port::{sqrt_block, Block},
     rng::Rng,
     tally::{Met, Tally, UNTOUCHED},
 };
+use mesh3d::raw::{sqrt_block, Block};
 
 /// The normal numbers are below it.
 const LIMIT: f32 = 1e37;

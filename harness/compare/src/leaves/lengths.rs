@@ -1,10 +1,8 @@
 //! Slices of different lengths: an entry fills as much as all of them reach,
 //! returns that count, and leaves the rest as it was.
 
-use crate::{
-    port,
-    tally::{Tally, UNTOUCHED},
-};
+use crate::tally::{Tally, UNTOUCHED};
+use mesh3d::raw;
 
 const LENGTHS: [usize; 14] = [0, 1, 2, 3, 4, 5, 7, 8, 9, 15, 16, 17, 32, 33];
 const LONGEST: usize = 33;
@@ -18,10 +16,10 @@ type Lengths = (&'static str, Vec<usize>, usize);
 pub fn compare() -> bool {
     let rising: [f32; LONGEST] = std::array::from_fn(|k| k as f32 / LONGEST as f32);
     let wide = rising.map(f64::from);
-    let sqrt: Call = &|lens, out| port::sqrt_all(&rising[..lens[0]], out);
-    let narrow: Call = &|lens, out| port::narrow_all(&wide[..lens[0]], out);
+    let sqrt: Call = &|lens, out| raw::sqrt_all(&rising[..lens[0]], out);
+    let narrow: Call = &|lens, out| raw::narrow_all(&wide[..lens[0]], out);
     let turn_weight: Call =
-        &|lens, out| port::turn_weight_all(&rising[..lens[0]], &rising[..lens[1]], out);
+        &|lens, out| raw::turn_weight_all(&rising[..lens[0]], &rising[..lens[1]], out);
 
     let mut tally = Tally::new();
     for out in LENGTHS {

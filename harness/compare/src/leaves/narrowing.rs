@@ -1,10 +1,10 @@
 //! `narrow_all` against `as f32`.
 
 use crate::{
-    port,
     rng::Rng,
     tally::{in_batches, Tally, BATCH},
 };
+use mesh3d::raw;
 
 const F32_INFINITY: u32 = 0x7f80_0000;
 const F32_SUBNORMALS: u32 = 0x0080_0000;
@@ -33,7 +33,7 @@ pub fn compare() -> bool {
     let mut tally = Tally::new();
     let mut found = [0.0; BATCH];
     in_batches(gate_patterns().map(f64::from_bits), |xs| {
-        port::narrow_all(xs, &mut found);
+        raw::narrow_all(xs, &mut found);
         for (x, narrow) in xs.iter().zip(&found) {
             tally.count_answer(x.to_bits(), *x as f32, *narrow);
         }

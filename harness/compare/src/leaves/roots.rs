@@ -1,9 +1,7 @@
 //! `sqrt_all` against `f32::sqrt`.
 
-use crate::{
-    port,
-    tally::{in_batches, Tally, BATCH},
-};
+use crate::tally::{in_batches, Tally, BATCH};
+use mesh3d::raw;
 
 /// Signs, ends of the ranges, and NaNs.
 pub const EDGES: [u32; 28] = [
@@ -34,7 +32,7 @@ pub fn compare_all() -> bool {
 fn check(tally: &mut Tally<u32>, patterns: impl Iterator<Item = u32>) {
     let mut found = [0.0; BATCH];
     in_batches(patterns.map(f32::from_bits), |xs| {
-        port::sqrt_all(xs, &mut found);
+        raw::sqrt_all(xs, &mut found);
         for (x, root) in xs.iter().zip(&found) {
             tally.count_answer(x.to_bits(), x.sqrt(), *root);
         }

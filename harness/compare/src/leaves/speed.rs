@@ -1,6 +1,7 @@
 //! The leaves' speed, each beside the loop that the Rust would run.
 
-use crate::{measure::side_by_side, port, rng::Rng};
+use crate::{measure::side_by_side, rng::Rng};
+use mesh3d::raw;
 use std::hint::black_box;
 
 const COUNT: usize = 4096;
@@ -41,7 +42,7 @@ fn fill(name: &str, port: impl Fn(&mut [f32]), rust: impl Fn(&mut [f32])) {
 
 fn measure_roots(name: &str, xs: &[f32], rust: fn(&[f32], &mut [f32])) {
     let port = |out: &mut [f32]| {
-        port::sqrt_all(xs, out);
+        raw::sqrt_all(xs, out);
     };
     fill(name, port, |out| rust(xs, out));
 }
@@ -50,7 +51,7 @@ fn measure_blocks(name: &str, xs: &[f32]) {
     let (xs, _) = xs.as_chunks();
     let port = |out: &mut [f32]| {
         for (xs, out) in xs.iter().zip(out.as_chunks_mut().0) {
-            port::sqrt_block(xs, out);
+            raw::sqrt_block(xs, out);
         }
     };
     fill(name, port, |out| roots(xs.as_flattened(), out));
@@ -61,7 +62,7 @@ fn measure_narrowings(rng: &mut Rng) {
         .map(|_| f64::from(rng.signed_unit()) + f64::from(rng.unit()) / 1e8)
         .collect();
     let port = |out: &mut [f32]| {
-        port::narrow_all(&xs, out);
+        raw::narrow_all(&xs, out);
     };
     fill("narrowing, Rust in lanes", port, |out| narrowings(&xs, out));
 }
@@ -70,15 +71,15 @@ fn measure_turn_weights(rng: &mut Rng) {
     let us: Vec<f32> = (0..COUNT).map(|_| rng.unit()).collect();
     let cs: Vec<f32> = (0..COUNT).map(|_| rng.unit()).collect();
     let port = |out: &mut [f32]| {
-        port::turn_weight_all(&us, &cs, out);
+        raw::turn_weight_all(&us, &cs, out);
     };
     fill("turn weight", port, |out| turn_weights(&us, &cs, out));
 
     let rests: Vec<f32> = us.iter().map(|u| 1.0 - u).collect();
     let port = |out: &mut [f32]| {
         let (of_rests, of_us) = out.split_at_mut(COUNT / 2);
-        port::turn_weight_all(&rests, &cs, of_rests);
-        port::turn_weight_all(&us, &cs, of_us);
+        raw::turn_weight_all(&rests, &cs, of_rests);
+        raw::turn_weight_all(&us, &cs, of_us);
     };
     let rust = |out: &mut [f32]| turn_weight_pairs(&us, &cs, out);
     fill("turn weight, two for each angle", port, rust);

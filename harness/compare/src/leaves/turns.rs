@@ -2,10 +2,10 @@
 //! component above 1 in size.
 
 use crate::{
-    port,
     rng::Rng,
     tally::{in_batches, Tally, BATCH},
 };
+use mesh3d::raw;
 use oracle::animation::{AnimationSampler, AnimationValues, Interpolation, SampledValue};
 
 pub type Quat = [f32; 4];
@@ -116,7 +116,7 @@ fn weights(turns: &[Turn]) -> ([f32; BATCH], [f32; BATCH]) {
     let cosines: Vec<f32> = turns.iter().map(|turn| turn.cosine).collect();
     let of = |portions: Vec<f32>| {
         let mut weights = [f32::NAN; BATCH];
-        port::turn_weight_all(&portions, &cosines, &mut weights);
+        raw::turn_weight_all(&portions, &cosines, &mut weights);
         weights
     };
     let rest = of(turns.iter().map(|turn| 1.0 - turn.u).collect());
@@ -147,7 +147,7 @@ pub fn compare_nan() -> bool {
         }
     }
     let mut found = vec![0.0; vs.len()];
-    port::turn_weight_all(&vs, &cs, &mut found);
+    raw::turn_weight_all(&vs, &cs, &mut found);
     let mut tally = Tally::new();
     for ((v, c), weight) in vs.iter().zip(&cs).zip(found) {
         let input = u64::from(v.to_bits()) << 32 | u64::from(c.to_bits());

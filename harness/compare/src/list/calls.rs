@@ -6,9 +6,9 @@ use crate::{
     graph::{answers::Answers, poses::Posed},
     matrices::nearly_affine,
     morphs::case::{targets_of, vertices_of},
-    port::{Tables, Vertices},
     pose::Moved,
     rng::Rng,
+    rooms::Vertices,
     skins::{
         case::{Case as SkinCase, Lens as PaletteLens},
         worlds::{Worlds, MORE_SLOTS},
@@ -20,6 +20,7 @@ use crate::{
         skinned::{influences, rust_skinned},
     },
 };
+use mesh3d::raw::Scene;
 use oracle::{Pose, Scene3D};
 
 const SHORT_SCRATCH: u32 = 6;
@@ -30,7 +31,7 @@ const CUT: [usize; 4] = [0, 5, 6, 7];
 pub struct Listed<'a> {
     scene: &'a Scene3D,
     moved: &'a Moved,
-    pub lent: Tables<'a>,
+    pub lent: Scene<'a>,
     /// What the tables draw.
     drawn: u32,
 }
@@ -42,7 +43,7 @@ pub struct Call {
 }
 
 impl<'a> Listed<'a> {
-    pub fn new(scene: &'a Scene3D, moved: &'a Moved, lent: Tables<'a>) -> Self {
+    pub fn new(scene: &'a Scene3D, moved: &'a Moved, lent: Scene<'a>) -> Self {
         Listed {
             scene,
             moved,

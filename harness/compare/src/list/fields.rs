@@ -12,11 +12,8 @@
 //!         the lists positions, normals, tangents as they are left
 //! ```
 
-use crate::{
-    port::{BakeRoom, Baked, Tables},
-    tables::layout::tables_of,
-    tally::one_nan_bits,
-};
+use crate::{rooms::BakeRoom, tables::layout::tables_of, tally::one_nan_bits};
+use mesh3d::raw::{Baked, Scene};
 use std::io::{self, Write};
 
 /// Fields, one after the other.
@@ -27,7 +24,7 @@ impl Line {
         Line(numbers.to_vec())
     }
 
-    pub fn scene(lent: &Tables) -> Self {
+    pub fn scene(lent: &Scene) -> Self {
         let mut header = lent.header;
         let tables = tables_of(&mut header);
         let parts = tables.map(|part| [part.at as u32, part.count as u32]);

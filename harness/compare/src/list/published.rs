@@ -18,10 +18,10 @@ use super::{
 use crate::{
     bakes::case::{is_turn, outputs_of, room},
     graph::answers::Answers,
-    port::Baked,
     tables::{build::lend, layout::Layout},
     tally::one_nan_bits,
 };
+use mesh3d::raw::Baked;
 use oracle::{AnimationChannel, NodeId};
 use std::io::{self, BufWriter, Write};
 

@@ -27,7 +27,6 @@
 use super::{calls::Listed, fields::Line};
 use crate::{
     bakes::step_turns,
-    port::Tables,
     pose::{fit, Moved},
     rng::Rng,
     tables::{
@@ -37,6 +36,7 @@ use crate::{
         numbers::number,
     },
 };
+use mesh3d::raw::Scene;
 use oracle::{Animation, NodeId, Pose, Scene3D};
 use std::{
     collections::BTreeSet,
@@ -128,12 +128,12 @@ impl Listing {
     }
 
     /// Roots past the words, and a mark above 1.
-    fn add_faulty(&mut self, scene: &Scene3D, moved: &Moved, lent: Tables, rng: &mut Rng) {
+    fn add_faulty(&mut self, scene: &Scene3D, moved: &Moved, lent: Scene, rng: &mut Rng) {
         let mut leaving = lent;
         leaving.header.graph.roots.at = lent.words.len() + 1;
         let mut words = lent.words.to_vec();
         words[lent.header.graph.nodes.at + MESH_MARK] = 2;
-        let marked = Tables {
+        let marked = Scene {
             words: &words,
             ..lent
         };

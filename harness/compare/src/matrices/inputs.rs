@@ -1,9 +1,7 @@
 //! Numbers, vectors, quaternions and matrices to compare on.
 
-use crate::{
-    port::{Mat4, Quat, Vec3},
-    rng::Rng,
-};
+use crate::rng::Rng;
+use mesh3d::raw::{Mat4, Quat, Vec3};
 use oracle::scene::trs_to_matrix;
 use std::array::from_fn;
 

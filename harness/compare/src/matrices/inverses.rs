@@ -5,10 +5,10 @@ use super::{
     rust, CASES,
 };
 use crate::{
-    port::{scene, Mat4, Quat},
     rng::Rng,
     tally::{Met, Tally, UNTOUCHED},
 };
+use mesh3d::raw::{matrix, Mat4, Quat};
 use std::array::from_fn;
 
 /// How far a number of the bottom row may be from that of the identity.
@@ -37,19 +37,19 @@ pub fn compare() -> bool {
         let input = [m.as_flattened()];
 
         let transpose = rust::linear_inverse_transpose(&m);
-        let found = by_port(|out| scene::linear_inverse_transpose(&m, out));
+        let found = by_port(|out| matrix::linear_inverse_transpose(&m, out));
         transposes.count_numbers(&input, &by_rust(transpose), &found);
         linear.count(linear_sort(&m, transpose.is_some()));
 
         let inverse = rust::mat4_affine_inverse(m);
-        let found = by_port(|out| scene::mat4_affine_inverse(&m, out));
+        let found = by_port(|out| matrix::mat4_affine_inverse(&m, out));
         inverses.count_numbers(&input, &by_rust(inverse), &found);
         affine.count(affine_sort(&m, inverse.is_some()));
         if let Some(edge) = edge_sort(&m) {
             affine.count(edge);
         }
 
-        let found = by_port(|out| scene::normal_matrix(&m, out));
+        let found = by_port(|out| matrix::normal_matrix(&m, out));
         normals.count_numbers(&input, &by_rust(rust::normal_matrix(m)), &found);
     }
     let equal = [

@@ -5,7 +5,8 @@ use super::{
     inputs::{matrix, number},
     rust, CASES, UNTOUCHED16,
 };
-use crate::{port::scene, rng::Rng, tally::Tally};
+use crate::{rng::Rng, tally::Tally};
+use mesh3d::raw::matrix;
 use oracle::Transform;
 
 pub fn compare() -> bool {
@@ -21,17 +22,17 @@ fn compare_two() -> bool {
         let (a, b, w) = (matrix(&mut rng), matrix(&mut rng), number(&mut rng));
         let (in_a, in_b) = (a.as_flattened(), b.as_flattened());
 
-        let found = filled(UNTOUCHED16, |out| scene::mat4_mul(&a, &b, out));
+        let found = filled(UNTOUCHED16, |out| matrix::mat4_mul(&a, &b, out));
         let product = rust::mat4_mul(a, b);
         products.count_numbers(&[in_a, in_b], product.as_flattened(), found.as_flattened());
 
-        let found = filled(UNTOUCHED16, |out| scene::mat4_madd(&a, w, &b, out));
+        let found = filled(UNTOUCHED16, |out| matrix::mat4_madd(&a, w, &b, out));
         let sum = filled(a, |sum| rust::mat4_madd(sum, w, &b));
         let input = [in_a, &[w], in_b];
         sums.count_numbers(&input, sum.as_flattened(), found.as_flattened());
 
         let determinant = [rust::linear_det(&a)];
-        determinants.count_numbers(&[in_a], &determinant, &[scene::linear_det(&a)]);
+        determinants.count_numbers(&[in_a], &determinant, &[matrix::linear_det(&a)]);
     }
     let equal = [
         products.report("mat4_mul", "cases", ""),
@@ -43,7 +44,7 @@ fn compare_two() -> bool {
 
 /// The Rust's is the matrix of the identity transform.
 fn compare_identity() -> bool {
-    let found = filled(UNTOUCHED16, |out| scene::identity(out));
+    let found = filled(UNTOUCHED16, |out| matrix::identity(out));
     let identity = Transform::identity().to_matrix();
     let mut tally = Tally::new();
     tally.count_numbers(&[], identity.as_flattened(), found.as_flattened());

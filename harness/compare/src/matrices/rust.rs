@@ -5,7 +5,7 @@
 //! these show too little (sums that start at 0 and positive weights, a sign, and
 //! directions), are cut from skinning.rs as well.
 
-use crate::port::{Mat3, Mat4, Quat, Vec3};
+use mesh3d::raw::{Mat3, Mat4, Quat, Vec3};
 use oracle::{MorphTarget, Primitive};
 use std::array::from_fn;
 

@@ -3,11 +3,8 @@
 //! inlined.
 
 use super::{inputs::unit_quaternion, rust};
-use crate::{
-    measure::side_by_side,
-    port::{scene, Mat4, Quat, Vec3},
-    rng::Rng,
-};
+use crate::{measure::side_by_side, rng::Rng};
+use mesh3d::raw::{matrix, Mat4, Quat, Vec3};
 use oracle::Transform;
 use std::{array::from_fn, hint::black_box};
 
@@ -50,7 +47,7 @@ pub fn measure() {
         "mat4_mul, a call each",
         &items,
         ZEROS,
-        |item, out| scene::mat4_mul(&items[0].matrix, &item.matrix, out),
+        |item, out| matrix::mat4_mul(&items[0].matrix, &item.matrix, out),
         |item, out| mat4_mul(&items[0].matrix, &item.matrix, out),
     );
     fill(
@@ -59,7 +56,7 @@ pub fn measure() {
         ZEROS,
         |item, out| {
             let (t, r, s) = (&item.translation, &item.rotation, &item.scale);
-            scene::to_matrix(0, t, r, s, &ZEROS, out);
+            matrix::to_matrix(0, t, r, s, &ZEROS, out);
         },
         |item, out| to_matrix(&item.transform, out),
     );
@@ -67,14 +64,14 @@ pub fn measure() {
         "from_matrix, a call each",
         &items,
         ([0.0; 3], [0.0; 4], [0.0; 3]),
-        |item, (t, r, s)| scene::from_matrix(&item.matrix, t, r, s),
+        |item, (t, r, s)| matrix::from_matrix(&item.matrix, t, r, s),
         |item, (t, r, s)| from_matrix(&item.matrix, t, r, s),
     );
     fill(
         "mat4_affine_inverse, a call each",
         &items,
         (0, ZEROS),
-        |item, (told, out)| *told = scene::mat4_affine_inverse(&item.matrix, out),
+        |item, (told, out)| *told = matrix::mat4_affine_inverse(&item.matrix, out),
         |item, (told, out)| *told = mat4_affine_inverse(&item.matrix, out),
     );
 }

@@ -7,10 +7,10 @@ use super::{
     rust, CASES, UNTOUCHED16, UNTOUCHED3, UNTOUCHED4,
 };
 use crate::{
-    port::{scene, Mat4, Vec3},
     rng::Rng,
     tally::{Met, Tally},
 };
+use mesh3d::raw::{matrix, Mat4, Vec3};
 use oracle::Transform;
 
 pub fn compare() -> bool {
@@ -28,7 +28,7 @@ fn compare_lengths() -> bool {
     let mut rng = Rng::new(1);
     for _ in 0..CASES {
         let v = vector(&mut rng);
-        tally.count_numbers(&[&v], &[rust::vec3_len(v)], &[scene::vec3_len(&v)]);
+        tally.count_numbers(&[&v], &[rust::vec3_len(v)], &[matrix::vec3_len(&v)]);
     }
     tally.report("vec3_len", "cases", "")
 }
@@ -40,13 +40,13 @@ fn compare_to_matrix() -> bool {
     let mut rng = Rng::new(1);
     for _ in 0..CASES {
         let (t, r, s) = (vector(&mut rng), quaternion(&mut rng), vector(&mut rng));
-        let found = filled(UNTOUCHED16, |out| scene::trs_to_matrix(&t, &r, &s, out));
+        let found = filled(UNTOUCHED16, |out| matrix::trs_to_matrix(&t, &r, &s, out));
         let expected = rust::trs_to_matrix(t, r, s);
         of_parts.count_numbers(&[&t, &r, &s], expected.as_flattened(), found.as_flattened());
 
         let (m, mark) = (matrix(&mut rng), rng.one_of(&[0, 0, 1, u32::MAX]));
         let found = filled(UNTOUCHED16, |out| {
-            scene::to_matrix(mark, &t, &r, &s, &m, out)
+            matrix::to_matrix(mark, &t, &r, &s, &m, out)
         });
         let transform = if mark == 0 {
             Transform::Trs {
@@ -77,7 +77,9 @@ fn compare_rotations() -> bool {
     for _ in 0..CASES {
         let rows = rotation(&mut rng);
         let [a, b, c]: [Vec3; 3] = std::array::from_fn(|j| rows.map(|row| row[j]));
-        let found = filled(UNTOUCHED4, |out| scene::rot_matrix_to_quat(&a, &b, &c, out));
+        let found = filled(UNTOUCHED4, |out| {
+            matrix::rot_matrix_to_quat(&a, &b, &c, out)
+        });
         tally.count_numbers(&[&a, &b, &c], &rust::rot_matrix_to_quat(rows), &found);
         met.count(branch(rows));
     }
@@ -112,7 +114,7 @@ fn compare_from_matrix() -> bool {
     for _ in 0..CASES {
         let m = matrix(&mut rng);
         let (mut t, mut r, mut s) = (UNTOUCHED3, UNTOUCHED4, UNTOUCHED3);
-        scene::from_matrix(&m, &mut t, &mut r, &mut s);
+        matrix::from_matrix(&m, &mut t, &mut r, &mut s);
         let expected = from_matrix(m);
         tally.count_numbers(&[m.as_flattened()], &expected, &[&t[..], &r, &s].concat());
         for length in &expected[7..] {

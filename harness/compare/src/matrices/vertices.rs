@@ -8,10 +8,10 @@ use super::{
     rust, CASES, UNTOUCHED16, UNTOUCHED3, UNTOUCHED9,
 };
 use crate::{
-    port::{scene, Mat4, Quat, Vec3},
     rng::Rng,
     tally::{Met, Tally},
 };
+use mesh3d::raw::{matrix, Mat4, Quat, Vec3};
 
 pub fn compare() -> bool {
     let equal = [compare_directions(), compare_rigid(), compare_skinned()];
@@ -29,7 +29,7 @@ fn compare_directions() -> bool {
             None => told(0, UNTOUCHED3),
         };
         let mut unit = UNTOUCHED3;
-        let case = scene::normalize3(&v, &mut unit);
+        let case = matrix::normalize3(&v, &mut unit);
         tally.count_numbers(&[&v], &expected, &told(case, unit));
 
         let length = rust::vec3_len(v);
@@ -57,7 +57,7 @@ fn compare_rigid() -> bool {
         let in_m = m.as_flattened();
         let rust = rust::rigid(m, p, d, t);
 
-        let found = filled(UNTOUCHED3, |out| scene::transform_point(&m, &p, out));
+        let found = filled(UNTOUCHED3, |out| matrix::transform_point(&m, &p, out));
         points.count_numbers(&[in_m, &p], &rust.point, &found);
         met.count(sort_of_w(&m, &p));
 
@@ -95,7 +95,7 @@ fn compare_skinned() -> bool {
 
         let m = blend(&a, &b, weights);
         let (in_a, in_b) = (a.as_flattened(), b.as_flattened());
-        let found = filled(UNTOUCHED3, |out| scene::affine_point(&m, &p, out));
+        let found = filled(UNTOUCHED3, |out| matrix::affine_point(&m, &p, out));
         points.count_numbers(&[in_a, in_b, &weights, &p], &point, &found);
         let found = turn_tangent(&m, t);
         tangents.count_numbers(&[in_a, in_b, &weights, &t], &tangent, &found);
@@ -124,20 +124,20 @@ fn weight(rng: &mut Rng) -> f32 {
 
 fn blend(a: &Mat4, b: &Mat4, [of_a, of_b]: [f32; 2]) -> Mat4 {
     let zeros = [[0.0; 4]; 4];
-    let first = filled(UNTOUCHED16, |out| scene::mat4_madd(&zeros, of_a, a, out));
-    filled(UNTOUCHED16, |out| scene::mat4_madd(&first, of_b, b, out))
+    let first = filled(UNTOUCHED16, |out| matrix::mat4_madd(&zeros, of_a, a, out));
+    filled(UNTOUCHED16, |out| matrix::mat4_madd(&first, of_b, b, out))
 }
 
 fn turn(m: &Mat4, v: &Vec3) -> Vec3 {
-    let linear = filled(UNTOUCHED9, |out| scene::linear_part(m, out));
-    filled(UNTOUCHED3, |out| scene::mul3(&linear, v, out))
+    let linear = filled(UNTOUCHED9, |out| matrix::linear_part(m, out));
+    filled(UNTOUCHED3, |out| matrix::mul3(&linear, v, out))
 }
 
 /// The direction stays as it was where it has no length.
 fn turn_tangent(m: &Mat4, [x, y, z, w]: Quat) -> Quat {
     let mut unit = [x, y, z];
-    scene::normalize3(&turn(m, &[x, y, z]), &mut unit);
+    matrix::normalize3(&turn(m, &[x, y, z]), &mut unit);
     let [x, y, z] = unit;
-    let mirrors = scene::linear_det(m) < 0.0;
+    let mirrors = matrix::linear_det(m) < 0.0;
     [x, y, z, if mirrors { -w } else { w }]
 }

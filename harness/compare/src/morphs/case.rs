@@ -1,13 +1,14 @@
 //! A primitive with weights, as both sides take it.
 
 use crate::{
-    port::{morphed_floats, Part, Tables, Vertices},
+    rooms::Vertices,
     tables::{
         build::lend,
         layout::{Layout, Lent},
     },
     tally::{one_nan_bits, UNTOUCHED},
 };
+use mesh3d::raw::{Part, Scene};
 use oracle::{Animation, Mesh, Primitive, Scene3D};
 
 /// The words of a primitive's record, and which of them name its targets.
@@ -48,7 +49,7 @@ impl<'a> Case<'a> {
     pub fn of_port(&self) -> Vertices {
         let mut vertices = vertices_of(self.base, self.more);
         let lent = self.lent.of_port();
-        morphed_floats(&lent, self.targets, self.weights, &mut vertices);
+        vertices.morph(&lent, self.targets, self.weights);
         vertices
     }
 
@@ -84,7 +85,7 @@ pub fn lend_primitive(base: &Primitive, layout: &mut Layout) -> Lent {
 }
 
 /// The targets of the first primitive of the first mesh.
-pub fn targets_of(lent: &Tables) -> Part {
+pub fn targets_of(lent: &Scene) -> Part {
     let tables = lent.header.meshes;
     let first = lent.words[tables.meshes.at] as usize;
     let record = &lent.words[tables.primitives.at + first * PRIMITIVE_WORDS..];

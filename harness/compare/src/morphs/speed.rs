@@ -1,7 +1,7 @@
 //! The speed of eight targets with normals and tangents, per vertex.
 
 use super::case::{lend_primitive, targets_of, vertices_of};
-use crate::{measure::side_by_side, port::morphed_floats, rng::Rng, tables::layout::Layout};
+use crate::{measure::side_by_side, rng::Rng, tables::layout::Layout};
 use oracle::{InBetween, MorphTarget, Primitive};
 use std::{array::from_fn, hint::black_box, iter::repeat_with};
 
@@ -32,7 +32,7 @@ fn measure_targets(vertices: usize, in_betweens: usize) {
             out.positions.copy_from_slice(&rest.positions);
             out.normals.copy_from_slice(&rest.normals);
             out.tangents.copy_from_slice(&rest.tangents);
-            morphed_floats(black_box(&lent), targets, &weights, black_box(&mut out));
+            black_box(&mut out).morph(black_box(&lent), targets, &weights);
         },
         || {
             black_box(black_box(&base).morphed(&weights));

@@ -4,11 +4,11 @@ use super::{FLOATS, WORDS};
 use crate::{
     graph::scenes::tree,
     measure::side_by_side,
-    port,
     rng::Rng,
     sampling::speed::{turns, vectors, Maker},
     tables::{build::lend, layout::Layout},
 };
+use mesh3d::raw;
 use oracle::{
     Animation, AnimationChannel, AnimationProperty, AnimationSampler, Interpolation, NodeId,
 };
@@ -53,14 +53,14 @@ fn measure_animation(name: &str, nodes: u32, animation: &Animation) {
     let end = (KEYS - 1) as f32 / 32.0;
     let mut rng = Rng::new(3);
     let times: Vec<f32> = repeat_with(|| end * rng.unit()).take(TIMES).collect();
-    let drawn = port::sample_pose(&lent, times[0], &mut marks, &mut slots);
+    let drawn = raw::sample_pose(&lent, times[0], &mut marks, &mut slots);
     assert_eq!(drawn, 0, "the speed of a refusal");
     side_by_side(
         &format!("sample_pose, {nodes} {name}"),
         nodes * TIMES,
         || {
             for time in &times {
-                black_box(port::sample_pose(
+                black_box(raw::sample_pose(
                     black_box(&lent),
                     *time,
                     &mut marks,

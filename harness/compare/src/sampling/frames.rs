@@ -8,10 +8,10 @@ use super::{
     tracks::{small, Track},
 };
 use crate::{
-    port::{self, Told},
     rng::Rng,
     tally::{Met, Tally, UNTOUCHED},
 };
+use mesh3d::raw::{self, Told};
 
 const TRACKS: usize = 200_000;
 /// Past the end of a frame.
@@ -84,7 +84,7 @@ impl Comparison {
         let mut expected = written.to_vec();
         expected.resize(room, UNTOUCHED);
         let mut out = vec![UNTOUCHED; room];
-        let told = port::frame(&track.of_port(), rows, k, &mut out);
+        let told = raw::frame(&track.of_port(), rows, k, &mut out);
         let count = written.len();
         let equal = told == Told { number, count } && same_bits(&expected, &out);
         self.frames.count((track.keys().len(), k), equal, |_| {
@@ -106,7 +106,7 @@ impl Comparison {
         if track.is_over_limit() {
             return;
         }
-        let (rust, port) = (track.stride(), port::stride(&track.of_port()));
+        let (rust, port) = (track.stride(), raw::stride(&track.of_port()));
         self.strides.count(track.keys().len(), port == rust, |_| {
             format!("{}, Rust {rust}, port {port}", track.told())
         });

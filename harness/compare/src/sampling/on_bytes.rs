@@ -4,10 +4,10 @@
 //! float of a slice count for nothing, and all that is not written stays as lent.
 
 use crate::{
-    port::{self, Told, Track},
     rng::Rng,
     tally::{one_nan_bits, Met, Tally, UNTOUCHED},
 };
+use mesh3d::raw::{self, Told, Track};
 
 /// The floats of a long table.
 const LONG_TABLE: usize = 70_000;
@@ -133,7 +133,7 @@ impl Answer {
 
     fn of_floats(track: &Track, time: f32, len: usize, decoding: usize) -> Self {
         let (mut value, mut out) = ([UNTOUCHED; 4], vec![UNTOUCHED; len / 4]);
-        let told = port::sample(track, time, &mut value, &mut out);
+        let told = raw::sample(track, time, &mut value, &mut out);
         let is_early = (1..SHORT_SCRATCH).contains(&told.number);
         if decoding < track.floats.len() && !is_early {
             return Answer::refused(SHORT_SCRATCH, len, decoding);
@@ -161,7 +161,7 @@ impl Answer {
     fn of_bytes(track: &Track, table: &[u8], time: f32, len: usize, decoding: usize) -> Self {
         let mut answer = Answer::refused(0, len, decoding);
         let mut room = vec![UNTOUCHED; decoding];
-        answer.told = port::sample_bytes(
+        answer.told = raw::sample_bytes(
             track,
             table,
             time.to_bits(),

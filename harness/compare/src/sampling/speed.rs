@@ -3,12 +3,8 @@
 //! builders make.
 
 use super::tracks::{factor, keys_in_line, Track};
-use crate::{
-    matrices::inputs::unit_quaternion,
-    measure::side_by_side,
-    port::{self, Quat},
-    rng::Rng,
-};
+use crate::{matrices::inputs::unit_quaternion, measure::side_by_side, rng::Rng};
+use mesh3d::raw::{self, Quat};
 use oracle::{AnimationSampler, AnimationValues, Interpolation, SampledValue};
 use std::{array::from_fn, hint::black_box, iter::repeat_with};
 
@@ -48,12 +44,12 @@ fn measure_track(name: &str, track: &Track, times: &[f32]) {
     let lent = track.of_port();
     let (mut value, mut out) = ([0.0; 4], [0.0; WEIGHTS]);
     for time in times {
-        let told = port::sample(&lent, *time, &mut value, &mut out);
+        let told = raw::sample(&lent, *time, &mut value, &mut out);
         assert_eq!(told.number, 0, "{name}: the speed of a refusal");
     }
     let mut by_port = || {
         for time in times {
-            black_box(port::sample(
+            black_box(raw::sample(
                 &lent,
                 *time,
                 black_box(&mut value),
@@ -84,7 +80,7 @@ fn measure_bytes(name: &str, track: &Track, times: &[f32]) {
     let mut room = vec![0.0; lent.floats.len()];
     let (mut value, mut out) = ([0; 16], [0; 4 * WEIGHTS]);
     let time = times[0].to_bits();
-    let told = port::sample_bytes(&lent, &table, time, &mut room, &mut value, &mut out);
+    let told = raw::sample_bytes(&lent, &table, time, &mut room, &mut value, &mut out);
     assert_eq!(told.number, 0, "{name}: the speed of a refusal");
     side_by_side(
         name,
@@ -94,7 +90,7 @@ fn measure_bytes(name: &str, track: &Track, times: &[f32]) {
                 let time = time.to_bits();
                 let (value, out) = (black_box(&mut value), black_box(&mut out[..]));
                 let room = black_box(&mut room);
-                black_box(port::sample_bytes(&lent, &table, time, room, value, out));
+                black_box(raw::sample_bytes(&lent, &table, time, room, value, out));
             }
         },
         || {
@@ -111,7 +107,7 @@ fn measure_keys(count: usize) {
         &format!("keys_in_line, {count} keys, per key"),
         count,
         || {
-            black_box(port::keys_in_line(black_box(&keys)));
+            black_box(raw::keys_in_line(black_box(&keys)));
         },
         || {
             black_box(keys_in_line(black_box(&keys)));

@@ -5,10 +5,10 @@
 
 use super::tracks::small;
 use crate::{
-    port::{self, Told},
     rng::Rng,
     tally::{Met, Tally, UNTOUCHED},
 };
+use mesh3d::raw::{self, Told};
 
 const TRACKS: usize = 100_000;
 
@@ -76,7 +76,7 @@ fn nameless(rng: &mut Rng) -> u32 {
 }
 
 /// Sets one of the four places and counts past the table, and tells which.
-fn leave(rng: &mut Rng, track: &mut port::Track) -> usize {
+fn leave(rng: &mut Rng, track: &mut raw::Track) -> usize {
     let past = past(rng, track.floats.len());
     let changed = rng.below(4) as usize;
     *match changed {
@@ -104,26 +104,26 @@ fn past(rng: &mut Rng, len: usize) -> usize {
 
 /// By each call, on floats and on bytes, at any time and with any room; without
 /// any to decode into.
-fn is_refused(track: &port::Track, number: u32, rng: &mut Rng) -> bool {
+fn is_refused(track: &raw::Track, number: u32, rng: &mut Rng) -> bool {
     let time = rng.one_of(&[0.0, 0.5, f32::NAN]);
     let (mut value, mut out) = ([UNTOUCHED; 4], vec![UNTOUCHED; rng.below(9) as usize]);
     let told = [
-        port::sample(track, time, &mut value, &mut out),
-        port::frame(track, false, 0, &mut out),
-        port::frame(track, true, 0, &mut out),
+        raw::sample(track, time, &mut value, &mut out),
+        raw::frame(track, false, 0, &mut out),
+        raw::frame(track, true, 0, &mut out),
     ];
     let number_alone = Told { number, count: 0 };
     let untouched = |x: &f32| x.to_bits() == UNTOUCHED.to_bits();
     told == [number_alone; 3]
-        && port::stride(track) == 0
+        && raw::stride(track) == 0
         && value.iter().chain(&out).all(untouched)
         && is_refused_in_bytes(track, number_alone, time, out.len())
 }
 
-fn is_refused_in_bytes(track: &port::Track, number_alone: Told, time: f32, room: usize) -> bool {
+fn is_refused_in_bytes(track: &raw::Track, number_alone: Told, time: f32, room: usize) -> bool {
     const LENT: u8 = 0xa5;
     let table: Vec<u8> = track.floats.iter().flat_map(|x| x.to_le_bytes()).collect();
     let (mut value, mut out) = ([LENT; 16], vec![LENT; 4 * room]);
-    let told = port::sample_bytes(track, &table, time.to_bits(), &mut [], &mut value, &mut out);
+    let told = raw::sample_bytes(track, &table, time.to_bits(), &mut [], &mut value, &mut out);
     told == number_alone && value.iter().chain(&out).all(|x| *x == LENT)
 }

@@ -4,10 +4,10 @@
 use super::{bits, KEY_LIMIT, WEIGHT_LIMIT};
 use crate::{
     matrices::inputs::{number, quaternion, unit_quaternion, vector},
-    port::{self, Quat},
     rng::Rng,
     tally::UNTOUCHED,
 };
+use mesh3d::raw::{self, Quat};
 use oracle::{AnimationSampler, AnimationValues, Interpolation};
 use std::iter::repeat_with;
 
@@ -76,8 +76,8 @@ impl Track {
         }
     }
 
-    pub fn of_port(&self) -> port::Track<'_> {
-        port::Track {
+    pub fn of_port(&self) -> raw::Track<'_> {
+        raw::Track {
             floats: &self.floats,
             kind: self.kind as u32,
             interpolation: self.interpolation() as u32,

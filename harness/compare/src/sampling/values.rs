@@ -13,10 +13,10 @@ use super::{
     tracks::{any, small, time, Kind, Track},
 };
 use crate::{
-    port::{self, Quat, Told},
     rng::Rng,
     tally::{Met, Tally, UNTOUCHED},
 };
+use mesh3d::raw::{self, Quat, Told};
 use oracle::{AnimationValues, Interpolation, SampledValue};
 
 const SMALL_TRACKS: usize = 250_000;
@@ -63,7 +63,7 @@ impl Answer {
     fn of_port(track: &Track, time: f32, room: usize) -> Self {
         let mut answer = Answer::refused(0, room);
         let track = track.of_port();
-        answer.told = port::sample(&track, time, &mut answer.value, &mut answer.out);
+        answer.told = raw::sample(&track, time, &mut answer.value, &mut answer.out);
         answer
     }
 

@@ -4,10 +4,10 @@
 
 use super::worlds::Worlds;
 use crate::{
-    port::{self, Mat4, Root, Tables, Told},
     tables::numbers::number,
     tally::{one_nan_bits, UNTOUCHED},
 };
+use mesh3d::raw::{self, Mat4, Root, Scene, Told};
 use oracle::{NodeId, Scene3D, SkinId};
 
 const SHORT_SCRATCH: u32 = 6;
@@ -18,7 +18,7 @@ const NO_COMMON_ROOT: u32 = 11;
 
 pub struct Case<'a> {
     pub scene: &'a Scene3D,
-    pub lent: Tables<'a>,
+    pub lent: Scene<'a>,
     /// What the tables draw.
     pub drawn: u32,
     pub worlds: &'a Worlds,
@@ -36,7 +36,7 @@ pub struct Lens {
 type Left = (Told, Vec<u32>);
 
 impl<'a> Case<'a> {
-    pub fn new(scene: &'a Scene3D, lent: Tables<'a>, worlds: &'a Worlds) -> Self {
+    pub fn new(scene: &'a Scene3D, lent: Scene<'a>, worlds: &'a Worlds) -> Self {
         Case {
             scene,
             lent,
@@ -57,7 +57,7 @@ impl<'a> Case<'a> {
         let mut out = vec![UNTOUCHED; lens.out];
         let places = &self.worlds.codes[..lens.places];
         let worlds = &self.worlds.slots[..lens.worlds];
-        let told = port::joint_matrices(&self.lent, node, places, worlds, &mut out);
+        let told = raw::joint_matrices(&self.lent, node, places, worlds, &mut out);
         (told, bits(&out))
     }
 
@@ -83,7 +83,7 @@ impl<'a> Case<'a> {
     }
 
     pub fn root(&self, skin: u32) -> Root {
-        port::skin_root(&self.lent, skin)
+        raw::skin_root(&self.lent, skin)
     }
 
     pub fn expected_root(&self, skin: u32) -> Root {
@@ -97,7 +97,7 @@ impl<'a> Case<'a> {
 
     pub fn weights(&self, node: u32, room: usize) -> Left {
         let mut out = vec![UNTOUCHED; room];
-        let told = port::effective_weights(&self.lent, node, &mut out);
+        let told = raw::effective_weights(&self.lent, node, &mut out);
         (told, bits(&out))
     }
 

@@ -2,10 +2,8 @@
 //! scene is asked for.
 
 use super::case::Case;
-use crate::{
-    graph::sorts::{has_loop, is_any_twice},
-    port::Mat4,
-};
+use crate::graph::sorts::{has_loop, is_any_twice};
+use mesh3d::raw::Mat4;
 use oracle::{NodeId, Scene3D, SkinId};
 use std::collections::BTreeSet;
 

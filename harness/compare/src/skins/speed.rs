@@ -7,10 +7,10 @@ use super::{
 use crate::{
     graph::no_animation,
     measure::side_by_side,
-    port::{self, Mat4, Root, Told},
     rng::Rng,
     tables::{build::lend, layout::Layout},
 };
+use mesh3d::raw::{self, Mat4, Root, Told};
 use oracle::{NodeId, SkinId};
 use std::{array::from_fn, hint::black_box, iter::repeat_with};
 
@@ -28,7 +28,7 @@ fn measure_palette(joints: usize) {
     let lent = lent.of_port();
     let mut out = vec![0.0; 16 * joints];
     let mut palette = || {
-        port::joint_matrices(
+        raw::joint_matrices(
             black_box(&lent),
             0,
             &worlds.codes,
@@ -66,12 +66,12 @@ fn measure_root(depth: u32, joints: u32) {
         number: 0,
         node: depth - 1,
     };
-    assert_eq!(port::skin_root(&lent, 0), root, "the speed of a refusal");
+    assert_eq!(raw::skin_root(&lent, 0), root, "the speed of a refusal");
     side_by_side(
         &format!("skin_root, joints {joints}, depth {depth}"),
         joints as usize,
         || {
-            black_box(port::skin_root(black_box(&lent), 0));
+            black_box(raw::skin_root(black_box(&lent), 0));
         },
         || {
             black_box(black_box(&scene).skin_root(SkinId(0)));

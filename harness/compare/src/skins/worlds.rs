@@ -1,6 +1,7 @@
 //! Worlds of nodes in lent slots, and the same for the Rust.
 
-use crate::{matrices::inputs::matrix, port::Mat4, rng::Rng};
+use crate::{matrices::inputs::matrix, rng::Rng};
+use mesh3d::raw::Mat4;
 use oracle::{Pose, Scene3D};
 
 /// Of a node, a code that is 0 where it has no world, and sixteen floats.

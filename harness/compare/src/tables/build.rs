@@ -1,11 +1,8 @@
 //! The tables of a scene of the Rust, with one of its animations.
 
 use super::layout::{tables_of, Layout, Lent, Pool};
-use crate::{
-    port::{Graph, Header, Meshes, Part, Skins},
-    sampling::bits,
-    tally::UNTOUCHED,
-};
+use crate::{sampling::bits, tally::UNTOUCHED};
+use mesh3d::raw::{Graph, Header, Meshes, Part, Skins};
 use oracle::{
     Animation, AnimationChannel, AnimationValues, InBetween, Mesh, MorphTarget, Node, Primitive,
     Scene3D, Skeleton, Skin, Transform,

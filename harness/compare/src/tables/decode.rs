@@ -2,7 +2,7 @@
 //! that leave their slices, and numbers that it does not list, are a panic.
 
 use super::layout::Lent;
-use crate::port::Part;
+use mesh3d::raw::Part;
 use oracle::{
     Animation, AnimationChannel, AnimationProperty, AnimationSampler, AnimationTarget,
     AnimationValues, InBetween, Interpolation, Mesh, MeshId, MorphTarget, Node, NodeId, Primitive,

@@ -1,7 +1,7 @@
 //! The small scene of docs/TABLES.md.
 
 use super::{decode::decode, layout::Lent, numbers::number, same::Same};
-use crate::port::{self, Graph, Header, Meshes, Part};
+use mesh3d::raw::{self, Graph, Header, Meshes, Part};
 use oracle::{
     Animation, AnimationChannel, AnimationProperty, AnimationSampler, AnimationValues,
     Interpolation, Mesh, MeshId, Node, NodeId, Primitive, Scene3D, Transform,
@@ -10,10 +10,7 @@ use oracle::{
 pub fn compare() -> bool {
     let lent = lent();
     let is_read = decode(&lent).is_same(&scene());
-    let drawn = [
-        number(&lent.of_port()),
-        port::tables_number(&lent.of_port()),
-    ];
+    let drawn = [number(&lent.of_port()), raw::tables_number(&lent.of_port())];
     println!("small scene: read {is_read}, drawn {drawn:?}");
     is_read && drawn == [0; 2]
 }

@@ -2,7 +2,7 @@
 //! fault.
 
 use super::layout::tables_of;
-use crate::port::{Header, Part};
+use mesh3d::raw::{Header, Part};
 
 /// In the order of the header.
 #[derive(Clone, Copy, Debug)]

@@ -1,25 +1,28 @@
 //! Tables that are at fault, or nearly so: copies of good ones that were
-//! damaged, and noise. Each number is drawn many times.
+//! damaged, and noise; the number that they draw, and where. Each number is
+//! drawn many times, and each table is at fault many times.
 
 use super::{
     build::lend,
     fields::{LISTED, TABLES},
     generate::{scene, SMALL},
     layout::Layout,
-    numbers::number,
+    numbers::fault,
     zeros::ROOM,
 };
 use crate::{
-    port::{self, Header, Part, Tables},
     rng::Rng,
     tally::{Met, Tally},
 };
+use mesh3d::raw::{self, Header, Part, Scene};
 
 const GOOD_TABLES: usize = 5_000;
 const DAMAGES_OF_EACH: usize = 180;
 const NOISES: usize = 300_000;
 /// Of each number.
 const LEAST_DRAWN: u64 = 10_000;
+/// Of the faults in each table.
+const LEAST_IN_TABLE: u64 = 1_000;
 
 pub fn compare() -> bool {
     let mut comparison = Comparison::new();
@@ -52,8 +55,8 @@ struct Case {
 }
 
 impl Case {
-    fn lent<'a>(&'a self, zeros: &'a [f32]) -> Tables<'a> {
-        Tables {
+    fn lent<'a>(&'a self, zeros: &'a [f32]) -> Scene<'a> {
+        Scene {
             words: &self.words[..self.lens[0]],
             floats: &zeros[..self.lens[1]],
             node_weights: &zeros[..self.lens[2]],
@@ -266,6 +269,8 @@ struct Comparison {
     tally: Tally<(usize, usize)>,
     sorts: Met<7>,
     drawn: Met<3>,
+    /// In which table the fault is, or the first where there is none.
+    tables: Met<9>,
 }
 
 impl Comparison {
@@ -283,25 +288,44 @@ impl Comparison {
                 "noise",
             ]),
             drawn: Met::new(["0", "1", "2"]),
+            tables: Met::new([
+                "nodes or none",
+                "roots",
+                "channels",
+                "meshes",
+                "primitives",
+                "targets",
+                "in-betweens",
+                "skins",
+                "skeletons",
+            ]),
         }
     }
 
     fn count(&mut self, sort: usize, case: &Case) {
         let lent = case.lent(&self.zeros);
-        let (plain, port) = (number(&lent), port::tables_number(&lent));
+        let (plain, port) = (fault(&lent), raw::find_fault(&lent));
+        let number = raw::tables_number(&lent);
+        let equal = plain == port && plain.number == number;
         self.sorts.count(sort);
-        self.drawn.count(plain as usize);
-        self.tally.count((case.lens[0], sort), plain == port, |_| {
+        self.drawn.count(plain.number as usize);
+        self.tables.count(plain.table as usize);
+        self.tally.count((case.lens[0], sort), equal, |_| {
             let (header, lens, changes) = (case.header, case.lens, &case.changes);
             let words = &lent.words[..lens[0].min(1_000)];
-            format!("{header:?}, lengths {lens:?}, was {changes:?}, words {words:?}, plain {plain}, port {port}")
+            format!("{header:?}, lengths {lens:?}, was {changes:?}, words {words:?}, plain {plain:?}, port {port:?}, number {number}")
         });
     }
 
     fn report(&self) -> bool {
-        let note = [&self.sorts.note()[..], "; drawn", &self.drawn.note()].concat();
+        let drawn = ["; drawn", &self.drawn.note()[..]].concat();
+        let note = [&self.sorts.note()[..], &drawn, "; in", &self.tables.note()].concat();
         let equal = self.tally.report("hostile tables", "cases", &note);
-        let met = [self.sorts.report(), self.drawn.report_least(LEAST_DRAWN)];
+        let met = [
+            self.sorts.report(),
+            self.drawn.report_least(LEAST_DRAWN),
+            self.tables.report_least(LEAST_IN_TABLE),
+        ];
         equal && !met.contains(&false)
     }
 }

@@ -1,10 +1,8 @@
 //! Tables as they are lent, and the parts of a slice before it is known where
 //! they lie.
 
-use crate::{
-    port::{Header, Part, Tables},
-    rng::Rng,
-};
+use crate::rng::Rng;
+use mesh3d::raw::{Header, Part, Scene};
 
 /// The tables that a header names, in its order.
 pub fn tables_of(header: &mut Header) -> [&mut Part; 9] {
@@ -31,8 +29,8 @@ pub struct Lent {
 }
 
 impl Lent {
-    pub fn of_port(&self) -> Tables<'_> {
-        Tables {
+    pub fn of_port(&self) -> Scene<'_> {
+        Scene {
             words: &self.words,
             floats: &self.floats,
             node_weights: &self.node_weights,

@@ -6,10 +6,8 @@ use super::{
     numbers::number,
     zeros::{Zeros, LAST_RECORD, ROOM},
 };
-use crate::{
-    port::{self, Header, Part, Tables},
-    tally::Tally,
-};
+use crate::tally::Tally;
+use mesh3d::raw::{self, Header, Part, Scene};
 use Table::{Channels, InBetweens, Nodes, Primitives, Roots, Skeletons, Skins, Targets};
 
 pub fn compare() -> bool {
@@ -60,8 +58,8 @@ impl Directed {
         [ROOM, self.floats.len(), weights[0], weights[1]]
     }
 
-    fn lent<'a>(&'a self, case: &'a Zeros) -> Tables<'a> {
-        Tables {
+    fn lent<'a>(&'a self, case: &'a Zeros) -> Scene<'a> {
+        Scene {
             words: &case.words,
             floats: &self.floats,
             node_weights: &self.node_weights,
@@ -75,7 +73,7 @@ impl Directed {
         let mut case = self.zeros.clone();
         change(&mut case);
         let lent = self.lent(&case);
-        self.expect_of(drawn, name, [number(&lent), port::tables_number(&lent)]);
+        self.expect_of(drawn, name, [number(&lent), raw::tables_number(&lent)]);
     }
 
     fn expect_of(&mut self, drawn: u32, name: &str, [plain, port]: [u32; 2]) {
@@ -360,14 +358,14 @@ impl Directed {
         let mut one_root = nothing;
         one_root.graph.roots.count = 1;
         for (header, drawn) in [(nothing, 0), (a_table_behind, 1), (one_root, 1)] {
-            let lent = Tables {
+            let lent = Scene {
                 words: &[],
                 floats: &[],
                 node_weights: &[],
                 mesh_weights: &[],
                 header,
             };
-            let numbers = [number(&lent), port::tables_number(&lent)];
+            let numbers = [number(&lent), raw::tables_number(&lent)];
             self.expect_of(drawn, &format!("{lent:?}"), numbers);
         }
     }

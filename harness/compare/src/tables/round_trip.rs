@@ -10,10 +10,10 @@ use super::{
     same::Same,
 };
 use crate::{
-    port,
     rng::Rng,
     tally::{Met, Tally},
 };
+use mesh3d::raw;
 use oracle::{
     Animation, AnimationChannel, AnimationProperty, AnimationValues, NodeId, Scene3D, Transform,
 };
@@ -87,7 +87,7 @@ impl Comparison {
             let lent = lend(scene, animation, &mut layout);
             equal &= decode(&lent).is_same(&whole);
             let lent = lent.of_port();
-            drawn.extend([number(&lent), port::tables_number(&lent)]);
+            drawn.extend([number(&lent), raw::tables_number(&lent)]);
         }
         equal &= drawn[0] != 1 && drawn == [drawn[0]; 4];
         self.meet(scene, animation, drawn[0]);

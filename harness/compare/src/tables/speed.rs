@@ -1,11 +1,13 @@
-//! The speed of the number that tables draw, at the limits. Vertices are not
-//! looked at: parts lie over each other, and the time is that of the records.
+//! The speed of the number that tables draw and of the search for a fault, at
+//! the limits. Vertices are not looked at: parts lie over each other, and the
+//! time is that of the records.
 
-use super::{layout::Lent, numbers::number};
-use crate::{
-    measure::side_by_side,
-    port::{self, Graph, Header, Meshes, Part, Skins, Tables},
+use super::{
+    layout::Lent,
+    numbers::{fault, number},
 };
+use crate::measure::side_by_side;
+use mesh3d::raw::{self, Fault, Graph, Header, Meshes, Part, Scene, Skins};
 use std::hint::black_box;
 
 const PRIMITIVES: u32 = 64;
@@ -16,23 +18,48 @@ pub fn measure() {
     for vertices in [65_535, 1] {
         let lent = at_limits(vertices);
         let lent = lent.of_port();
-        let drawn = [number(&lent), port::tables_number(&lent)];
+        let drawn = [number(&lent), raw::tables_number(&lent)];
         assert_eq!(drawn, [0; 2], "the speed of a refusal");
         side_by_side(
             &format!("tables_number, vertices {vertices}"),
             1,
             || {
-                black_box(port::tables_number(black_box(&lent)));
+                black_box(raw::tables_number(black_box(&lent)));
             },
             || {
                 black_box(number_of(black_box(&lent)));
             },
         );
     }
+    measure_fault();
+}
+
+/// Of a scene whose last record, a skeleton, has too many joints.
+fn measure_fault() {
+    let mut lent = at_limits(1);
+    lent.words[lent.header.skins.skeletons.at + 1] = 257;
+    let lent = lent.of_port();
+    let found = [fault(&lent), raw::find_fault(&lent)];
+    assert_eq!(found.map(|fault| (fault.table, fault.word)), [(8, 1); 2]);
+    side_by_side(
+        "find_fault, in the last record",
+        1,
+        || {
+            black_box(raw::find_fault(black_box(&lent)));
+        },
+        || {
+            black_box(fault_of(black_box(&lent)));
+        },
+    );
 }
 
 #[inline(never)]
-fn number_of(lent: &Tables) -> u32 {
+fn fault_of(lent: &Scene) -> Fault {
+    fault(lent)
+}
+
+#[inline(never)]
+fn number_of(lent: &Scene) -> u32 {
     number(lent)
 }
 

@@ -1,7 +1,7 @@
 //! Tables of zeros, to be changed in one place.
 
 use super::fields::{Listed, Table, TABLES};
-use crate::port::{Header, Part};
+use mesh3d::raw::{Header, Part};
 
 /// Each record has its parts at the start, without entries.
 #[derive(Clone)]

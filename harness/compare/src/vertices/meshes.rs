@@ -2,8 +2,8 @@
 
 use crate::{
     matrices::inputs::{number, vector},
-    port::Vertices,
     rng::Rng,
+    rooms::Vertices,
     tally::Met,
 };
 use oracle::Primitive;

@@ -6,10 +6,10 @@ use super::{
 };
 use crate::{
     matrices::nearly_affine,
-    port::{self, Mat4},
     rng::Rng,
     tally::{Met, Tally},
 };
+use mesh3d::raw::Mat4;
 use oracle::{parts::linear_det, scene::mat4_affine_inverse};
 
 pub fn compare() -> bool {
@@ -24,7 +24,7 @@ pub fn compare() -> bool {
 
         let expected = over(&lent, &of_rust(&lent).transformed(m));
         let mut found = lent.clone();
-        port::transformed(&m, &mut found);
+        found.transform(&m);
         tally.count_numbers(
             &[m.as_flattened(), &joined(&lent)],
             &joined(&expected),

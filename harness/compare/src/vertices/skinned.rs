@@ -6,10 +6,11 @@ use super::{
 };
 use crate::{
     matrices::{inputs::number, nearly_affine},
-    port::{self, Influences, Mat4, Vertices},
     rng::Rng,
+    rooms::{Influences, Vertices},
     tally::{Met, Tally},
 };
+use mesh3d::raw::Mat4;
 
 const MOST_JOINTS: u32 = 4;
 
@@ -32,7 +33,7 @@ pub fn compare() -> bool {
 
         let expected = rust_skinned(&lent, &influences);
         let mut found = lent.clone();
-        port::skinned(&influences, &mut found);
+        found.skin(&influences);
         let joints: Vec<f32> = influences.joints.iter().map(|j| *j as f32).collect();
         tally.count_numbers(
             &[

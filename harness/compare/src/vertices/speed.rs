@@ -6,9 +6,10 @@ use super::meshes::{of_rust, rows};
 use crate::{
     matrices::inputs::unit_quaternion,
     measure::side_by_side,
-    port::{self, Influences, Mat4, Vertices},
     rng::Rng,
+    rooms::{Influences, Vertices},
 };
+use mesh3d::raw::Mat4;
 use oracle::scene::trs_to_matrix;
 use std::{array::from_fn, hint::black_box};
 
@@ -83,7 +84,7 @@ fn measure_rigid(name: &str, m: &Mat4, vertices: &Vertices) {
         VERTICES,
         || {
             copy(vertices, &mut changed);
-            port::transformed(black_box(m), black_box(&mut changed));
+            black_box(&mut changed).transform(black_box(m));
         },
         || {
             black_box(black_box(&mesh).transformed(*black_box(m)));
@@ -106,7 +107,7 @@ fn measure_skinned(name: &str, influences: &Influences, vertices: &Vertices) {
         VERTICES,
         || {
             copy(vertices, &mut changed);
-            port::skinned(black_box(influences), black_box(&mut changed));
+            black_box(&mut changed).skin(black_box(influences));
         },
         || {
             black_box(black_box(&mesh).skinned(black_box(&palette)));
