@@ -1,5 +1,5 @@
 //! The C header beside the exported functions of the crates, and those of
-//! c/text.c: each function is declared once, with the same types of parameters
+//! harness/c/text.c: each function is declared once, with the same types of parameters
 //! and result, and its name has the prefix. A slice is a pointer and a length,
 //! and a struct is compared field by field.
 

@@ -1,10 +1,10 @@
-//! The functions that the header declares, and those that c/text.c defines.
+//! The functions that the header declares, and those that harness/c/text.c defines.
 
 use super::{enclosed, read, Functions, Signature, ROOT};
 use std::{collections::BTreeMap, path::Path};
 
 const HEADER: &str = "include/mesh3d.h";
-const TEXTS: &str = "c/text.c";
+const TEXTS: &str = "harness/c/text.c";
 
 /// As written, with the names of structs in it.
 #[derive(Default)]
@@ -14,7 +14,7 @@ struct Declarations {
     functions: Functions,
 }
 
-/// Those of the header; then those of c/text.c.
+/// Those of the header; then those of harness/c/text.c.
 pub fn functions() -> [Functions; 2] {
     let file = |name: &str| read(&Path::new(ROOT).join(name));
     let mut header = Declarations::default();

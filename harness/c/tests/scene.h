@@ -1,5 +1,5 @@
-/* A small scene for the callers of c/tests: four nodes, two meshes, a skin, morph targets with an in-between, and four
-   channels, of which the last is aimed past the last node. Each slice has another length and other contents. */
+/* A small scene for the callers: four nodes, two meshes, a skin, morph targets with an in-between, and four channels,
+   of which the last is aimed past the last node. Each slice has another length and other contents. */
 #ifndef SCENE_H
 #define SCENE_H
 
