@@ -1,0 +1,4 @@
+pub mod Words
+pub mod Back
+pub mod Found
+pub mod Prefix

@@ -1,0 +1,5 @@
+pub mod Digits
+pub mod Forms
+pub mod Shape
+pub mod Parsed
+pub mod Common

@@ -1,0 +1,1 @@
+// Nested brackets: definitions alone, in specs/, and laws about them, in proofs/. There is no code.

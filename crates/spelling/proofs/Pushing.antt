@@ -1,0 +1,95 @@
+-- Bytes put into an output: one list after the other, a run at once, and a list part by part. Assumes nothing.
+use mathlib.Core.Path.{_≡_, refl, sym, ap, _∙_}
+use mathlib.Core.Bool.{Bool, true, false}
+use mathlib.Core.List.{List, [], _∷_, _++_}
+use Prim.Native.Nat.{ℕ, suc, _+_, _≤_, _<_, min}
+use native.Mathlib.Numerals.{add-one}
+use native.Mathlib.Omega.{arith}
+use borrow.Author.Tests.{ltb-true, ltb-false}
+use lib.Dec.{ltb}
+use lib.ListN.{length, getD, set, drop, length-set, drop-of-length-le}
+use lib.Seq.{sets, set-out, drop-cons}
+use Rattle.spelling.specs.Pushed.{Out, outAt, push, pushes}
+
+-- ---- one list after the other
+pub pushes-append : (xs bs : List ℕ) (o : Out) → pushes (xs ++ bs) o ≡ pushes bs (pushes xs o)
+unfolding pushes
+pushes-append [] bs o = refl
+pushes-append (x ∷ xs) bs o = pushes-append xs bs (push x o)
+
+pub put-append : (xs bs : List ℕ) (o : Out) {mid left : Out} → mid ≡ pushes xs o → left ≡ pushes bs mid
+    → left ≡ pushes (xs ++ bs) o
+put-append xs bs o p q = q ∙ ap (pushes bs) p ∙ sym (pushes-append xs bs o)
+
+length-pushes : (bs : List ℕ) (o : Out) → length (pushes bs o .bytes) ≡ length (o .bytes)
+unfolding pushes
+length-pushes [] o = refl
+length-pushes (b ∷ bs) o = length-pushes bs (push b o) ∙ length-set (o .bytes) (o .at) b
+
+pub place-upto : (b : ℕ) (o : Out) {next : Out} → next ≡ pushes (b ∷ []) o → next .at ≤ suc (length (o .bytes))
+unfolding pushes
+place-upto b o e = omega (arith, ap (λ (x : Out). x .at) e)
+
+-- ---- a run at once
+sets-out : (l : List ℕ) (i : ℕ) (bs : List ℕ) → length l ≤ i → sets l i bs ≡ l
+sets-out l i [] h = refl
+sets-out l i (b ∷ bs) h = rw (set-out l i b) (sets-out l (suc i) bs (omega arith))
+
+-- past the end one place is as good as another
+sets-place : (l : List ℕ) (i n : ℕ) (bs : List ℕ) → n ≡ length l → sets l (min i (suc n)) bs ≡ sets l i bs
+sets-place l i n bs e = go (ltb i (suc n)) refl
+  where
+    go : (t : Bool) → ltb i (suc n) ≡ t → sets l (min i (suc n)) bs ≡ sets l i bs
+    go true h =
+        let below = ltb-true i (suc n) h in
+        let m : min i (suc n) ≡ i = omega arith in
+        ap (λ (k : ℕ). sets l k bs) m
+    go false h =
+        let above = ltb-false i (suc n) h in
+        sets-out l (min i (suc n)) bs (omega arith) ∙ sym (sets-out l i bs (omega arith))
+
+push-sets : (b : ℕ) (bs l : List ℕ) (at : ℕ)
+    → pushes (b ∷ bs) (outAt l at) ≡ outAt (sets l at (b ∷ bs)) (min (at + suc (length bs)) (suc (length l)))
+unfolding pushes
+push-sets b [] l at = ap (outAt (set l at b)) (omega arith)
+push-sets b (c ∷ bs) l at =
+    let s = set l at b in
+    let n = length-set l at b in
+    let k = min (suc at) (suc (length l)) in
+    let m = suc (length bs) in
+    let e : min (k + m) (suc (length s)) ≡ min (at + suc m) (suc (length l)) = omega arith in
+    push-sets c bs s k ∙ (λ j. outAt (sets-place s (suc at) (length l) (c ∷ bs) (sym n) j) (e j))
+
+pub put-sets : (lent : List ℕ) (at : ℕ) (bs : List ℕ) (n : ℕ) {left : List ℕ} {next : ℕ} → length bs ≡ n → 0 < n
+    → left ≡ sets lent at bs → next ≡ min (at + n) (suc (length lent)) → outAt left next ≡ pushes bs (outAt lent at)
+put-sets lent at [] n e h f g = absurd (omega arith)
+put-sets lent at (b ∷ bs) n e h f g =
+    let m : min (at + n) (suc (length lent)) ≡ min (at + suc (length bs)) (suc (length lent)) = omega arith in
+    (λ j. outAt (f j) ((g ∙ m) j)) ∙ sym (push-sets b bs lent at)
+
+-- ---- a list part by part
+pub record Parts {A : Type 0} (text : List A → List ℕ) (part : A → List ℕ) : Type 0 where
+  pub none : text [] ≡ []
+  pub more : (x : A) (xs : List A) → text (x ∷ xs) ≡ part x ++ text xs
+
+-- what is still to put makes up what was to put
+abbrev pub Going : {A : Type 0} → (List A → List ℕ) → List A → Out → Out → ℕ → Type 0
+Going text all lent left i = pushes (text (drop i all)) left ≡ pushes (text all) lent
+
+pub going-length : (xs bs : List ℕ) (left lent : Out) → pushes xs left ≡ pushes bs lent
+    → length (left .bytes) ≡ length (lent .bytes)
+going-length xs bs left lent e =
+    sym (length-pushes xs left) ∙ ap (λ (o : Out). length (o .bytes)) e ∙ length-pushes bs lent
+
+module _ {A : Type 0} {text : List A → List ℕ} {part : A → List ℕ} (parts : Parts text part) where
+  pub going-more : (all : List A) (i : ℕ) (d : A) (bs : List ℕ) (lent mid : Out) {left : Out}
+      → Going text all lent mid i → i < length all → bs ≡ part (getD all i d) → left ≡ pushes bs mid
+      → Going text all lent left (i + 1)
+  going-more all i d bs lent mid e h q p =
+      let rest = drop (suc i) all in
+      rw (add-one i, p, ← pushes-append, q, ← parts .more (getD all i d) rest, ← drop-cons all i d h) e
+
+  pub going-done : (all : List A) (i : ℕ) (lent left : Out)
+      → Going text all lent left i → length all ≤ i → left ≡ pushes (text all) lent
+  unfolding pushes
+  going-done all i lent left e h = rw (drop-of-length-le all h, parts .none) at e

@@ -1,0 +1,140 @@
+// Text put into an output from a place on, as far as there is room. Each function answers the place behind what it put;
+// it stands still one past the end, so that the same function tells how much room is needed.
+ghost use mathlib.Core.Path.{_≡_};
+ghost use mathlib.Core.List.{[], _∷_, map};
+ghost use Prim.Native.Nat.{suc, _+_, _≤_, _<_, min};
+ghost use lib.Ieee.{binary32, toBits};
+ghost use lib.ListN.{set};
+ghost use lib.Seq.{sets};
+ghost use Rattle.grammar.specs.Digits.{numbers, floats, hexDigit, lastDigits, places, digitsOf, sortFor};
+ghost use Rattle.grammar.specs.Digits.{itemsText};
+ghost use Rattle.spelling.specs.Pushed.{Puts};
+
+// The place so many bytes on, in an output of so many.
+fn advanced(len: usize, at: usize, count: usize) -> usize
+    requires { ⌜ len < 0x8000_0000_0000_0000 ⌝ }
+    ensures { λ r. ⌜ r ≡ min (at + count) (suc len) ⌝ }
+{
+    if len < at {
+        return len + 1;
+    }
+    if count <= len - at {
+        return at + count;
+    }
+    len + 1
+}
+
+fn store_byte(out: &mut [u8], k: usize, b: u8)
+    ensures { λ _. ⌜ now (out .exit) ≡ set (now (out .entry)) k b ⌝ }
+{
+    if k < out.len() {
+        out[k] = b;
+    }
+}
+
+// Puts one byte.
+pub fn put(out: &mut [u8], at: usize, b: u8) -> usize
+    ensures { λ r. ⌜ Puts (b ∷ []) out at r ⌝ }
+{
+    let next = advanced(out.len(), at, 1);
+    store_byte(out, at, b);
+    next
+}
+
+// Puts bytes as they are.
+pub fn put_bytes(out: &mut [u8], at: usize, bytes: &[u8]) -> usize
+    ensures { λ r. ⌜ Puts (now (bytes .entry)) out at r ⌝ }
+{
+    let mut k = at;
+    let mut i = 0;
+    while i < bytes.len() {
+        k = put(out, k, bytes[i]);
+        i += 1;
+    }
+    k
+}
+
+fn letter(d: u32) -> u8
+    requires { ⌜ d < 16 ⌝ }
+    ensures { λ r. ⌜ r ≡ hexDigit d ⌝ }
+{
+    if d < 10 {
+        (48 + d) as u8
+    } else {
+        (87 + d) as u8
+    }
+}
+
+// How many decimal digits n has.
+fn places(n: u32) -> usize
+    ensures { λ r. ⌜ (r ≡ places 9 n) × (r ≤ 10) ⌝ }
+{
+    let mut left: usize = 9;
+    let mut count: usize = 1;
+    let mut m = n;
+    while 0 < left {
+        if m < 10 {
+            return count;
+        }
+        m = m / 10;
+        count += 1;
+        left -= 1;
+    }
+    count
+}
+
+// The last `count` digits of n, from the last one back.
+fn digits(out: &mut [u8], at: usize, base: u32, count: usize, n: u32)
+    requires { ⌜ (at < 0x8000_0000_0000_0001) × (count ≤ 10) × (0 < base) × (base ≤ 16) ⌝ }
+    ensures { λ _. ⌜ now (out .exit) ≡ sets (now (out .entry)) at (lastDigits base count n) ⌝ }
+{
+    let mut k = count;
+    let mut m = n;
+    while 0 < k {
+        k -= 1;
+        store_byte(out, at + k, letter(m % base));
+        m = m / base;
+    }
+}
+
+// Puts a space and an item: a number in decimal, or the eight digits of a float's bits.
+pub fn put_item(out: &mut [u8], at: usize, float: bool, n: u32) -> usize
+    ensures { λ r. ⌜ Puts (32 ∷ digitsOf (sortFor float) n) out at r ⌝ }
+{
+    let k = put(out, at, 32);
+    if float {
+        let next = advanced(out.len(), k, 8);
+        digits(out, k, 16, 8, n);
+        return next;
+    }
+    let count = places(n);
+    let next = advanced(out.len(), k, count);
+    digits(out, k, 10, count, n);
+    next
+}
+
+// Puts a list of numbers, each behind a space.
+pub fn put_numbers(out: &mut [u8], at: usize, items: &[u32]) -> usize
+    ensures { λ r. ⌜ Puts (itemsText numbers (now (items .entry))) out at r ⌝ }
+{
+    let mut k = at;
+    let mut i = 0;
+    while i < items.len() {
+        k = put_item(out, k, false, items[i]);
+        i += 1;
+    }
+    k
+}
+
+// Puts a list of floats, each behind a space.
+pub fn put_floats(out: &mut [u8], at: usize, items: &[f32]) -> usize
+    ensures { λ r. ⌜ Puts (itemsText floats (map (toBits binary32) (now (items .entry)))) out at r ⌝ }
+{
+    let mut k = at;
+    let mut i = 0;
+    while i < items.len() {
+        k = put_item(out, k, true, float::to_bits(items[i]));
+        i += 1;
+    }
+    k
+}
