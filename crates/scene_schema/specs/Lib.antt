@@ -1,0 +1,3 @@
+pub mod Schema
+pub mod Layout
+pub mod Numbers
