@@ -1,5 +1,5 @@
 -- The numbers of the calls that are turned down: scope, "Numbers when a piece is turned down". The lowest number that
--- applies is answered.
+-- applies is answered; 13 comes before 1.
 -- Definitions only.
 use mathlib.Core.List.{List, [], _∷_}
 use mathlib.Core.Bool.{Bool, true, false, not, _&&_, _||_}
@@ -40,6 +40,8 @@ pub data Refusal : Type 0 where
   noCommonRoot : Refusal
   -- no such frame
   noSuchFrame : Refusal
+  -- bad form: a text has no reading (request 2026-01)
+  badForm : Refusal
 
 abbrev pub number : Refusal → ℕ
 number outOfTable = 1
@@ -54,12 +56,13 @@ number noPalette = 9
 number shortOutput = 10
 number noCommonRoot = 11
 number noSuchFrame = 12
+number badForm = 13
 
 pub record Test : Type 0 where
   pub applies : Bool
   pub refusal : Refusal
 
--- the number of the first test that applies, or 0; tests stand in the order of their numbers
+-- the number of the first test that applies, or 0; tests stand in the order of judging
 unfoldable pub firstOf : List Test → ℕ
 firstOf [] = 0
 firstOf (t ∷ ts) = pick (t .applies) (number (t .refusal)) (firstOf ts)

@@ -25,6 +25,8 @@ pub const SHORT_OUTPUT: u32 = 10;
 pub const NO_COMMON_ROOT: u32 = 11;
 // No such frame.
 pub const NO_SUCH_FRAME: u32 = 12;
+// Bad form: a text has no reading.
+pub const BAD_FORM: u32 = 13;
 
 pub const NODE_LIMIT: usize = 1024;
 

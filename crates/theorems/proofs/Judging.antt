@@ -13,7 +13,7 @@ use lib.ListN.{getD}
 use Rattle.model.specs.Lists.{pick, every}
 use Rattle.model.specs.Refusals.{Refusal, outOfTable, overLimit, noTime, unevenTrack, keysOutOfLine, shortScratch}
 use Rattle.model.specs.Refusals.{noSuchNode, unplacedNode, noPalette, shortOutput, noCommonRoot, noSuchFrame, number}
-use Rattle.model.specs.Refusals.{Test, firstOf, lowest}
+use Rattle.model.specs.Refusals.{badForm, Test, firstOf, lowest}
 use Rattle.model.proofs.Tests.{both}
 use Rattle.theorems.specs.Judging.{order, before, rank, ascending, NoneApplies, Least, Judged, JudgesBy}
 use Rattle.theorems.specs.Judging.{afterTables}
@@ -35,6 +35,7 @@ in-order noPalette = refl
 in-order shortOutput = refl
 in-order noCommonRoot = refl
 in-order noSuchFrame = refl
+in-order badForm = refl
 
 -- no two have the same
 pub rank-apart : (q r : Refusal) → rank q ≡ rank r → q ≡ r
@@ -53,6 +54,7 @@ number-some noPalette e = omega arith
 number-some shortOutput e = omega arith
 number-some noCommonRoot e = omega arith
 number-some noSuchFrame e = omega arith
+number-some badForm e = omega arith
 
 -- ---- the first that applies
 

@@ -1,5 +1,5 @@
--- The order of judging: scope, "Numbers when a piece is turned down". Of the refusals that apply, a call answers the
--- one that the table judges first. Definitions only.
+-- The order of judging: scope, "Numbers when a piece is turned down", and request 2026-01, by which 13 comes before 1.
+-- Of the refusals that apply, a call answers the one that the table judges first. Definitions only.
 use mathlib.Core.Path.{_≡_}
 use mathlib.Core.Bool.{Bool, true, false, _&&_}
 use mathlib.Core.List.{List, [], _∷_, List·Memᴰ}
@@ -8,12 +8,13 @@ use lib.Dec.{eqb, ltb}
 use Rattle.model.specs.Lists.{pick, every}
 use Rattle.model.specs.Refusals.{Refusal, outOfTable, overLimit, noTime, unevenTrack, keysOutOfLine, shortScratch}
 use Rattle.model.specs.Refusals.{noSuchNode, unplacedNode, noPalette, shortOutput, noCommonRoot, noSuchFrame, number}
-use Rattle.model.specs.Refusals.{Test, firstOf}
+use Rattle.model.specs.Refusals.{badForm, Test, firstOf}
 
 -- the refusals as the table has them, the one that is judged first at the head
 abbrev pub order : List Refusal
 order =
-    outOfTable
+    badForm
+    ∷ outOfTable
     ∷ overLimit
     ∷ noTime
     ∷ unevenTrack
