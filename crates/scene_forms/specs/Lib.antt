@@ -1,0 +1,4 @@
+pub mod Filled
+pub mod Read
+pub mod Laid
+pub mod Said

@@ -1,0 +1,3 @@
+pub mod ArrayLengths
+pub mod MarkLaws
+pub mod KindLaws
