@@ -72,7 +72,7 @@ by-slots k P over more j (t ∷ ts) (x ∷ f) e h =
 
 -- ---- a form of the schema
 
-form-long : (ts : List Slot) (f : Form) → FitsSlots ts f → length f ≡ length ts
+pub form-long : (ts : List Slot) (f : Form) → FitsSlots ts f → length f ≡ length ts
 form-long [] [] h = refl
 form-long [] (x ∷ f) h = absurd h
 form-long (t ∷ ts) [] h = absurd h
@@ -103,7 +103,7 @@ time-apart : (x : Field) (c : Counts) → countField 0 1 x c ≡ c
 time-apart none c = refl
 time-apart (some xs) c = refl
 
-roots-first : (f : Form) (c : Counts) → countFields 0 0 (take 2 f) c ≡ c
+pub roots-first : (f : Form) (c : Counts) → countFields 0 0 (take 2 f) c ≡ c
 unfolding countFields
 roots-first [] c = refl
 roots-first (x ∷ []) c = node-apart x c

@@ -9,7 +9,7 @@ use borrow.Author.Tests.{ltb-true, ltb-false}
 use lib.Dec.{ltb}
 use lib.ListN.{length, getD, set, drop, length-set, drop-of-length-le}
 use lib.Seq.{sets, set-out, drop-cons}
-use Rattle.spelling.specs.Pushed.{Out, outAt, push, pushes}
+use Rattle.spelling.specs.Pushed.{Out, outAt, farthest, push, pushes}
 
 -- ---- one list after the other
 pub pushes-append : (xs bs : List ℕ) (o : Out) → pushes (xs ++ bs) o ≡ pushes bs (pushes xs o)
@@ -26,7 +26,7 @@ unfolding pushes
 length-pushes [] o = refl
 length-pushes (b ∷ bs) o = length-pushes bs (push b o) ∙ length-set (o .bytes) (o .at) b
 
-pub place-upto : (b : ℕ) (o : Out) {next : Out} → next ≡ pushes (b ∷ []) o → next .at ≤ suc (length (o .bytes))
+pub place-upto : (b : ℕ) (o : Out) {next : Out} → next ≡ pushes (b ∷ []) o → next .at ≤ farthest
 unfolding pushes
 place-upto b o e = omega (arith, ap (λ (x : Out). x .at) e)
 
@@ -36,36 +36,37 @@ sets-out l i [] h = refl
 sets-out l i (b ∷ bs) h = rw (set-out l i b) (sets-out l (suc i) bs (omega arith))
 
 -- past the end one place is as good as another
-sets-place : (l : List ℕ) (i n : ℕ) (bs : List ℕ) → n ≡ length l → sets l (min i (suc n)) bs ≡ sets l i bs
-sets-place l i n bs e = go (ltb i (suc n)) refl
+sets-place : (l : List ℕ) (i : ℕ) (bs : List ℕ) → length l ≤ farthest → sets l (min i farthest) bs ≡ sets l i bs
+sets-place l i bs h = go (ltb i farthest) refl
   where
-    go : (t : Bool) → ltb i (suc n) ≡ t → sets l (min i (suc n)) bs ≡ sets l i bs
-    go true h =
-        let below = ltb-true i (suc n) h in
-        let m : min i (suc n) ≡ i = omega arith in
+    go : (t : Bool) → ltb i farthest ≡ t → sets l (min i farthest) bs ≡ sets l i bs
+    go true e =
+        let below = ltb-true i farthest e in
+        let m : min i farthest ≡ i = omega arith in
         ap (λ (k : ℕ). sets l k bs) m
-    go false h =
-        let above = ltb-false i (suc n) h in
-        sets-out l (min i (suc n)) bs (omega arith) ∙ sym (sets-out l i bs (omega arith))
+    go false e =
+        let above = ltb-false i farthest e in
+        sets-out l (min i farthest) bs (omega arith) ∙ sym (sets-out l i bs (omega arith))
 
-push-sets : (b : ℕ) (bs l : List ℕ) (at : ℕ)
-    → pushes (b ∷ bs) (outAt l at) ≡ outAt (sets l at (b ∷ bs)) (min (at + suc (length bs)) (suc (length l)))
+push-sets : (b : ℕ) (bs l : List ℕ) (at : ℕ) → length l ≤ farthest
+    → pushes (b ∷ bs) (outAt l at) ≡ outAt (sets l at (b ∷ bs)) (min (at + suc (length bs)) farthest)
 unfolding pushes
-push-sets b [] l at = ap (outAt (set l at b)) (omega arith)
-push-sets b (c ∷ bs) l at =
+push-sets b [] l at h = ap (outAt (set l at b)) (omega arith)
+push-sets b (c ∷ bs) l at h =
     let s = set l at b in
-    let n = length-set l at b in
-    let k = min (suc at) (suc (length l)) in
+    let n : length s ≤ farthest = omega (arith, length-set l at b) in
+    let k = min (suc at) farthest in
     let m = suc (length bs) in
-    let e : min (k + m) (suc (length s)) ≡ min (at + suc m) (suc (length l)) = omega arith in
-    push-sets c bs s k ∙ (λ j. outAt (sets-place s (suc at) (length l) (c ∷ bs) (sym n) j) (e j))
+    let e : min (k + m) farthest ≡ min (at + suc m) farthest = omega arith in
+    push-sets c bs s k n ∙ (λ j. outAt (sets-place s (suc at) (c ∷ bs) n j) (e j))
 
-pub put-sets : (lent : List ℕ) (at : ℕ) (bs : List ℕ) (n : ℕ) {left : List ℕ} {next : ℕ} → length bs ≡ n → 0 < n
-    → left ≡ sets lent at bs → next ≡ min (at + n) (suc (length lent)) → outAt left next ≡ pushes bs (outAt lent at)
-put-sets lent at [] n e h f g = absurd (omega arith)
-put-sets lent at (b ∷ bs) n e h f g =
-    let m : min (at + n) (suc (length lent)) ≡ min (at + suc (length bs)) (suc (length lent)) = omega arith in
-    (λ j. outAt (f j) ((g ∙ m) j)) ∙ sym (push-sets b bs lent at)
+pub put-sets : (lent : List ℕ) (at : ℕ) (bs : List ℕ) (n : ℕ) {left : List ℕ} {next : ℕ} → length lent ≤ farthest
+    → length bs ≡ n → 0 < n → left ≡ sets lent at bs → next ≡ min (at + n) farthest
+    → outAt left next ≡ pushes bs (outAt lent at)
+put-sets lent at [] n l e h f g = absurd (omega arith)
+put-sets lent at (b ∷ bs) n l e h f g =
+    let m : min (at + n) farthest ≡ min (at + suc (length bs)) farthest = omega arith in
+    (λ j. outAt (f j) ((g ∙ m) j)) ∙ sym (push-sets b bs lent at l)
 
 -- ---- a list part by part
 pub record Parts {A : Type 0} (text : List A → List ℕ) (part : A → List ℕ) : Type 0 where

@@ -1,9 +1,9 @@
--- Bytes put into an output from a place on, one after the other, as far as there is room; the place stands still one
--- past the end. So one function measures and writes. Definitions only.
+-- Bytes put into an output from a place on, one after the other, as far as there is room; the place goes on past the
+-- end, so that one function measures and writes. Definitions only.
 use mathlib.Core.Path.{_≡_}
 use mathlib.Core.List.{List, [], _∷_}
 use Prim.Native.Nat.{ℕ, suc, min}
-use lib.ListN.{length, set}
+use lib.ListN.{set}
 use denote.Ref.{now}
 use Rattle.borrowed.specs.Slices.{Words}
 
@@ -15,8 +15,12 @@ pub record Out : Type 0 where
 abbrev pub outAt : List ℕ → ℕ → Out
 outAt bytes at = record { bytes = bytes; at = at }
 
+-- no slice is so long; the place stands still there
+abbrev pub farthest : ℕ
+farthest = 0x8000_0000_0000_0000
+
 abbrev pub push : ℕ → Out → Out
-push b o = outAt (set (o .bytes) (o .at) b) (min (suc (o .at)) (suc (length (o .bytes))))
+push b o = outAt (set (o .bytes) (o .at) b) (min (suc (o .at)) farthest)
 
 unfoldable pub pushes : List ℕ → Out → Out
 pushes [] o = o

@@ -1,27 +1,24 @@
-// Text put into an output from a place on, as far as there is room. Each function answers the place behind what it put;
-// it stands still one past the end, so that the same function tells how much room is needed.
+// Text put into an output from a place on, as far as there is room. Each function answers the place behind what it put,
+// also past the end, so that the same function tells how much room is needed.
 ghost use mathlib.Core.Path.{_≡_};
 ghost use mathlib.Core.List.{[], _∷_, map};
-ghost use Prim.Native.Nat.{suc, _+_, _≤_, _<_, min};
+ghost use Prim.Native.Nat.{_+_, _≤_, _<_, min};
 ghost use lib.Ieee.{binary32, toBits};
 ghost use lib.ListN.{set};
 ghost use lib.Seq.{sets};
 ghost use Rattle.grammar.specs.Digits.{numbers, floats, hexDigit, lastDigits, places, digitsOf, sortFor};
 ghost use Rattle.grammar.specs.Digits.{itemsText};
-ghost use Rattle.spelling.specs.Pushed.{Puts};
+ghost use Rattle.spelling.specs.Pushed.{farthest, Puts};
 
-// The place so many bytes on, in an output of so many.
-fn advanced(len: usize, at: usize, count: usize) -> usize
-    requires { ⌜ len < 0x8000_0000_0000_0000 ⌝ }
-    ensures { λ r. ⌜ r ≡ min (at + count) (suc len) ⌝ }
+// The place so many bytes on.
+fn advanced(at: usize, count: usize) -> usize
+    requires { ⌜ count ≤ 16 ⌝ }
+    ensures { λ r. ⌜ r ≡ min (at + count) farthest ⌝ }
 {
-    if len < at {
-        return len + 1;
-    }
-    if count <= len - at {
+    if at < 0x8000_0000_0000_0000 - count {
         return at + count;
     }
-    len + 1
+    0x8000_0000_0000_0000
 }
 
 fn store_byte(out: &mut [u8], k: usize, b: u8)
@@ -36,7 +33,7 @@ fn store_byte(out: &mut [u8], k: usize, b: u8)
 pub fn put(out: &mut [u8], at: usize, b: u8) -> usize
     ensures { λ r. ⌜ Puts (b ∷ []) out at r ⌝ }
 {
-    let next = advanced(out.len(), at, 1);
+    let next = advanced(at, 1);
     store_byte(out, at, b);
     next
 }
@@ -103,12 +100,12 @@ pub fn put_item(out: &mut [u8], at: usize, float: bool, n: u32) -> usize
 {
     let k = put(out, at, 32);
     if float {
-        let next = advanced(out.len(), k, 8);
+        let next = advanced(k, 8);
         digits(out, k, 16, 8, n);
         return next;
     }
     let count = places(n);
-    let next = advanced(out.len(), k, count);
+    let next = advanced(k, count);
     digits(out, k, 10, count, n);
     next
 }

@@ -9,7 +9,7 @@ use Rattle.spelling.proofs.put.Tie as tie
 returns : tie.Need-returns
 returns c =
     let s = c .before .before in
-    put-sets _ _ _ 1 refl (omega arith) (s .store-byte .ensures) (s .before .before .advanced .ensures)
+    put-sets _ _ _ 1 (omega arith) refl (omega arith) (s .store-byte .ensures) (s .before .before .advanced .ensures)
 
 pub put-spec : {M : Type 1} → statement M
 put-spec = tie.close (tie.spec (λ c κs. search needs) (λ c κs. search needs) (λ c. search needs) returns)

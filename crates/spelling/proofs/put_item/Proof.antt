@@ -1,24 +1,25 @@
 -- `spelling::put_item` meets its contract. Assumes nothing.
 use mathlib.Core.Path.{_≡_}
 use mathlib.Core.List.{List, [], _∷_}
-use Prim.Native.Nat.{ℕ, suc, _+_, _<_, min}
+use Prim.Native.Nat.{ℕ, _+_, _≤_, _<_, min}
 use native.Mathlib.Omega.{arith}
 use borrow.Author.Needs.{needs}
 use lib.ListN.{length}
 use lib.Seq.{sets}
 use Rattle.grammar.specs.Digits.{lastDigits}
-use Rattle.spelling.specs.Pushed.{Out, outAt, pushes}
+use Rattle.spelling.specs.Pushed.{Out, outAt, farthest, pushes}
 use Rattle.spelling.proofs.DigitLaws.{last-length, places-some}
 use Rattle.spelling.proofs.Pushing.{put-append, place-upto, put-sets}
 use Rattle.spelling.proofs.put_item.Statement.{statement}
 use Rattle.spelling.proofs.put_item.Tie as tie
 
-digits-put : (base count n : ℕ) (o : Out) (mid : List ℕ) (k : ℕ) {left : List ℕ} {next : ℕ} → 0 < count
+digits-put : (base count n : ℕ) (o : Out) (mid : List ℕ) (k : ℕ) {left : List ℕ} {next : ℕ} → length mid ≤ farthest
+    → 0 < count
     → outAt mid k ≡ pushes (32 ∷ []) o → left ≡ sets mid k (lastDigits base count n)
-    → next ≡ min (k + count) (suc (length mid)) → outAt left next ≡ pushes (32 ∷ lastDigits base count n) o
-digits-put base count n o mid k h p e f =
+    → next ≡ min (k + count) farthest → outAt left next ≡ pushes (32 ∷ lastDigits base count n) o
+digits-put base count n o mid k l h p e f =
     let ds = lastDigits base count n in
-    put-append (32 ∷ []) ds o p (put-sets mid k ds count (last-length base count n) h e f)
+    put-append (32 ∷ []) ds o p (put-sets mid k ds count l (last-length base count n) h e f)
 
 digits-requires : tie.Need-digits-requires
 digits-requires c κs =
@@ -31,7 +32,7 @@ returns c =
     let a = d .before .before in
     let p = a .before .before .before .before in
     rw (a .before .if1 .taken)
-    (digits-put 16 8 _ _ _ _ (omega arith) (p .put .ensures) (d .digits .ensures) (a .advanced .ensures))
+    (digits-put 16 8 _ _ _ _ (omega arith) (omega arith) (p .put .ensures) (d .digits .ensures) (a .advanced .ensures))
 
 digits-requires-2 : tie.Need-digits-requires-2
 digits-requires-2 c κs =
@@ -46,7 +47,7 @@ returns-2 c =
     let count = a .before .places .ensures .0 in
     let some = places-some 9 (p .before .before .before .args .n) in
     rw (a .before .before .if1 .left, ← count)
-    (digits-put 10 _ _ _ _ _ (omega arith) (p .put .ensures) (d .digits2 .ensures) (a .advanced2 .ensures))
+    (digits-put 10 _ _ _ _ _ (omega arith) (omega arith) (p .put .ensures) (d .digits2 .ensures) (a .advanced2 .ensures))
 
 pub put-item-spec : {M : Type 1} → statement M
 put-item-spec =
