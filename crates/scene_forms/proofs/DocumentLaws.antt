@@ -4,18 +4,19 @@ use mathlib.Core.List.{List, [], _∷_, _++_, map, append-nil}
 use Prim.Native.Nat.{ℕ, suc, _+_, _≤_, _<_}
 use native.Mathlib.Numerals.{add-one}
 use native.Mathlib.Omega.{arith}
-use lib.ListN.{length, getD, set, take, drop, drop-of-length-le, length-map, length-set}
+use lib.ListN.{length, set, take, drop, drop-of-length-le, length-map, length-set}
 use lib.Seq.{sets, drop-cons, sets-eq, take-all, take-suc-set}
-use Rattle.grammar.specs.Forms.{Kind, Form, Document}
+use Rattle.grammar.specs.Forms.{Kind, Document}
 use Rattle.grammar.specs.Parsed.{Got, got, onto, formsIn, documentIn, parsed}
 use Rattle.brackets.specs.declared.Met.{Met}
-use Rattle.scene_schema.specs.Schema.{kinds, kindAt, noKind}
+use Rattle.scene_schema.specs.Schema.{kinds, noKind}
 use Rattle.scene_forms.specs.declared.Place.{Place}
 use Rattle.scene_forms.specs.declared.Block.{Block}
 use Rattle.scene_forms.specs.Filled.{Read, putDocument}
-use Rattle.scene_forms.specs.Read.{Slices, SameLengths, Within, readAt, formsAt, FormsRead, wholeAt, startAt}
+use Rattle.scene_forms.specs.Read.{Slices, SameLengths, Within, formsAt, FormsRead, wholeAt, startAt}
 use Rattle.scene_forms.specs.Read.{DocumentRead}
-use Rattle.scene_forms.proofs.FormLaws.{from-to, same-refl, same-trans}
+use Rattle.scene_forms.proofs.FormLaws.{from-to}
+use Rattle.scene_forms.proofs.FieldLaws.{long-stays, long-more}
 
 kinds-long : length kinds ≡ 9
 unfolding kinds
@@ -67,7 +68,7 @@ document-start text rows met {o} {zeros} {reaches} a e z r =
       upto = omega arith;
       nine = z;
       reached = r;
-      long = same-refl a;
+      long = long-stays a;
     })
 
 -- no list of the kind has been read
@@ -116,7 +117,7 @@ module _ {text : List ℕ} {o : Place} {a b : Slices} {zeros counts reaches : Li
         upto = omega arith;
         nine = ap length e ∙ length-set counts k (r .count) ∙ g .nine;
         reached = ap length f ∙ length-set reaches k (r .place .reach) ∙ g .reached;
-        long = same-trans (g .long) (s .long);
+        long = long-more (g .long) (s .long);
       }
 
   pub document-done : (rows : ℕ) (met : Met) → o ≡ startAt rows met → 9 ≤ k → length zeros ≡ 9

@@ -1,24 +1,22 @@
 -- What a form, the forms of a kind and a whole text leave in the tables. Assumes nothing.
 use mathlib.Core.Path.{_≡_, refl, sym, ap, subst, _∙_}
-use mathlib.Core.List.{List, [], _∷_, _++_, map, append-nil}
+use mathlib.Core.List.{List, [], _∷_}
 use mathlib.Core.Bool.{Bool}
 use Prim.Native.Nat.{ℕ, zero, suc, _+_, _-_, _%_, _≤_, _<_, max}
-use native.Mathlib.Numerals.{add-one}
 use native.Mathlib.Omega.{arith}
 use borrow.Author.Tests.{eq-eqb, ne-eqb, lt-ltb, le-ltb}
-use lib.Dec.{eqb}
 use lib.Ieee.{Float}
-use lib.ListN.{length, getD, set, take, drop, drop-of-length-le, length-map, length-set}
-use lib.Seq.{sets, drop-cons, drop-drop, sets-eq, take-all, take-suc-set, take-set-le, length-sets}
+use lib.ListN.{length, getD, drop}
+use lib.Seq.{sets, drop-drop, length-sets}
 use Rattle.borrowed.specs.Slices.{Change}
 use Rattle.model.specs.Lists.{pick}
-use Rattle.grammar.specs.Forms.{Kind, Form, Document}
-use Rattle.grammar.specs.Parsed.{Got, got, onto, nameIn, fieldsIn, formsIn, documentIn, parsed, codeOf}
+use Rattle.grammar.specs.Forms.{Kind, Form}
+use Rattle.grammar.specs.Parsed.{Got, got, onto, nameIn, fieldsIn, formsIn, codeOf}
 use Rattle.brackets.specs.declared.Met.{Met}
 use Rattle.brackets.specs.declared.Spelling.{Spelling}
 use Rattle.brackets.specs.Met.{meet, meets, judge}
 use Rattle.brackets.specs.Read.{Passed, WordRead}
-use Rattle.scene_schema.specs.Schema.{kinds, kindAt, noKind}
+use Rattle.scene_schema.specs.Schema.{kindAt}
 use Rattle.scene_schema.specs.declared.Name.{Name}
 use Rattle.scene_schema.specs.Numbers.{titles, noName, lettersOf}
 use Rattle.scene_marks.specs.declared.Mark.{Mark}
@@ -28,13 +26,11 @@ use Rattle.scene_forms.specs.declared.Request.{Request}
 use Rattle.scene_forms.specs.declared.Spot.{Spot}
 use Rattle.scene_forms.specs.declared.Row.{Row}
 use Rattle.scene_forms.specs.declared.Place.{Place}
-use Rattle.scene_forms.specs.declared.Block.{Block}
-use Rattle.scene_forms.specs.declared.Found.{Found}
-use Rattle.scene_forms.specs.Filled.{Tables, tablesAs, Filled, Marked, opened, closed, putFields, Read, putForm}
+use Rattle.scene_forms.specs.Filled.{Marked, opened, closed, putFields, putForm}
 use Rattle.scene_forms.specs.Filled.{far, ahead, listSlot, reachIn, requestIn, putForms}
-use Rattle.scene_forms.specs.Read.{Slices, SameLengths, tablesAt, Within, filledAt, markedAt, FieldsRead, readAt}
-use Rattle.scene_forms.specs.Read.{openedAt, closedAt, FormRead, formsAt, FormsRead, wholeAt, startAt}
-use Rattle.scene_forms.specs.Read.{DocumentRead}
+use Rattle.scene_forms.specs.Read.{Slices, SameLengths, Within, markedAt, FieldsRead, readAt}
+use Rattle.scene_forms.specs.Read.{openedAt, closedAt, FormRead, formsAt, FormsRead}
+use Rattle.scene_forms.proofs.FieldLaws.{long-stays, long-more}
 
 -- ---- slices
 
@@ -44,17 +40,6 @@ slicesOf words floats nodeWeights meshWeights =
 
 abbrev pub from-to : Slices → Slices → Change Slices
 from-to a b = record { from = a; to = b }
-
-pub same-refl : (a : Slices) → SameLengths (from-to a a)
-same-refl a = record { words = refl; floats = refl; nodeWeights = refl; meshWeights = refl }
-
-pub same-trans : {a b c : Slices} → SameLengths (from-to a b) → SameLengths (from-to b c) → SameLengths (from-to a c)
-same-trans p q = record {
-  words = q .words ∙ p .words;
-  floats = q .floats ∙ p .floats;
-  nodeWeights = q .nodeWeights ∙ p .nodeWeights;
-  meshWeights = q .meshWeights ∙ p .meshWeights;
-}
 
 -- other words
 abbrev pub withWords : Slices → List ℕ → Slices
@@ -87,7 +72,10 @@ form-put {text} {k} {p} {a} {b} {s} {f} {r} words t o e w c =
     let open-is : markedAt a s clear ≡ opened text k (readAt a p .filled)
     = ap (λ (x : Spot). markedAt a x clear) o
     ∙ ap (λ (n : List ℕ). markedAt a (record {
-      next = p .next; counts = p .counts; met = meets text (40 ∷ n) (p .met); shape = p .shape;
+      next = p .next;
+      counts = p .counts;
+      met = meets text (40 ∷ n) (p .met);
+      shape = p .shape;
     }) clear) t in
     let next-is : s .next ≡ p .next = ap (λ (x : Spot). x .next) o in
     let made : ℕ → Form = λ at. fieldsIn (length text) (kindAt k .slots) (drop at text) .made in
@@ -161,7 +149,7 @@ forms-start k a h = record {
   forth = omega arith;
   within = h;
   turns = omega arith;
-  long = same-refl a;
+  long = long-stays a;
 }
 
 module _ {text : List ℕ} {k : ℕ} {p : Place} {a b : Slices} {q : Place} {count left : ℕ}
@@ -234,7 +222,7 @@ module _ {text : List ℕ} {k : ℕ} {p : Place} {a b : Slices} {q : Place} {cou
         forth = omega (arith, g .forth, n .passed .forth, s .passed .forth);
         within = s .within;
         turns = omega (arith, g .turns);
-        long = same-trans (g .long) (s .long);
+        long = long-more (g .long) (s .long);
       }
 
 -- ---- between forms
@@ -295,7 +283,13 @@ pub closed-told : (text : List ℕ) (k : ℕ) (p : Place) (s : Spot) (marks : Li
     → shape ≡ judge groups (s .met .at) (s .shape) → n ≡ strideOf k → rows ≡ ahead (p .rows) n
     → own ≡ reachIn k marks → reach ≡ max (p .reach) own → request ≡ requestIn k marks (p .request)
     → closedAt text k p s marks (record {
-      next = next; counts = s .counts; met = o; shape = shape; rows = rows; reach = reach; request = request;
+      next = next;
+      counts = s .counts;
+      met = o;
+      shape = shape;
+      rows = rows;
+      reach = reach;
+      request = request;
     })
 unfolding meets
 closed-told text k p s marks {next = next} u v em eo eg es en er ew ec eq = (

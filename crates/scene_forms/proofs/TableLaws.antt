@@ -20,8 +20,9 @@ use Rattle.scene_forms.specs.declared.Counts.{Counts}
 use Rattle.scene_forms.specs.Filled.{Tables, realsOf, poolOf, countsAs, countItems, putItems, Filled, markOf}
 use Rattle.scene_forms.specs.Filled.{putField, Marked, putFields, Read, far, ahead, putRow, opened, putForm}
 use Rattle.scene_forms.specs.Filled.{putForms, afresh, Whole, putDocument}
-use Rattle.scene_forms.specs.Laid.{itemsOf, poolNumber, fieldsItems, formsItems, itemsFrom, noCounts, markIn}
-use Rattle.scene_forms.specs.Laid.{countField, countFields, marksFrom, marksOf, formsRows, countForms, rowsFrom}
+use Rattle.scene_forms.specs.Laid.{itemsOf, poolNumber, fieldsItems, formsItems, itemsFrom, noCounts}
+use Rattle.scene_forms.specs.Laid.{countField, countFields, marksOf, formsRows, countForms, rowsFrom}
+use Rattle.scene_forms.proofs.MarkLaws.{marks-laid}
 use Rattle.scene_forms.proofs.StoreLaws.{sets-append, sets-apart}
 
 -- ---- how many items
@@ -213,14 +214,6 @@ module _ (text : List ℕ) (k : ℕ) where
       (λ i p. only-none (poolOf k j) p i) laid-none
   field-laid j (some xs) s = pool-laid (poolOf k j) xs (s .tables)
 
-  field-counted : (j : ℕ) (f : Field) (s : Filled)
-      → putField text k j f s .tables .counts ≡ countField k j f (s .tables .counts)
-  field-counted j f s = field-laid j f s {at = 0} .counts ∙ sym (count-field k j f (s .tables .counts))
-
-  field-marked : (j : ℕ) (f : Field) (s : Filled) → markOf k j f s ≡ markIn k j f (s .tables .counts)
-  field-marked j none s = refl
-  field-marked j (some xs) s = refl
-
   abbrev stepped : ℕ → Field → Marked → Marked
   stepped j f s = record {
     marks = setMark (s .marks) j (markOf k j f (s .filled));
@@ -233,23 +226,10 @@ module _ (text : List ℕ) (k : ℕ) where
   fields-laid j [] s = laid-none
   fields-laid j (f ∷ fs) s = laid-append (field-laid j f (s .filled)) (fields-laid (suc j) fs (stepped j f s))
 
-  fields-marked : (j : ℕ) (f : Form) (s : Marked)
-      → putFields text k j f s .marks ≡ marksFrom k j f (s .filled .tables .counts) (s .marks)
-  unfolding putFields marksFrom
-  fields-marked j [] s = refl
-  fields-marked j (f ∷ fs) s =
-      fields-marked (suc j) fs (stepped j f s)
-      ∙ (λ i. marksFrom k (suc j) fs (field-counted j f (s .filled) i)
-      (setMark (s .marks) j (field-marked j f (s .filled) i)))
-
-  pub form-marked : (f : Form) (s : Filled)
-      → putFields text k 0 f (opened text k s) .marks ≡ marksOf k f (s .tables .counts)
-  form-marked f s = fields-marked 0 f (opened text k s)
-
   pub form-laid : (f : Form) (r : Read)
       → ReadLaid (λ p. fieldsItems p k 0 f) (rowOf k (marksOf k f (r .filled .tables .counts))) r (putForm text k f r)
   unfolding putForm
-  form-laid f r = row-laid k (form-marked f (r .filled)) (fields-laid 0 f (opened text k (r .filled)))
+  form-laid f r = row-laid k (marks-laid text k f (r .filled)) (fields-laid 0 f (opened text k (r .filled)))
 
   pub form-counted : (f : Form) (r : Read)
       → putForm text k f r .filled .tables .counts ≡ countFields k 0 f (r .filled .tables .counts)

@@ -1,7 +1,6 @@
 -- What reading a document fills, field by field and form by form: the items of each table one behind the other, the
 -- record of each form, and how the text compares with the document's. A store past the end of a slice is left out, so
 -- that the same measures and fills. Definitions only.
-use mathlib.Core.Bool.{Bool}
 use mathlib.Core.List.{List, [], _∷_, _++_, map}
 use mathlib.Core.Option.{none, some}
 use Prim.Native.Nat.{ℕ, suc, _+_, _*_, _%_, max}

@@ -1,10 +1,9 @@
 -- The tables of a document, form by form and field by field: the items of each table one behind the other, and the
 -- record of each form; how far its lists of records reach; what its scene form asks for (docs/TEXT.md). Definitions
 -- only.
-use mathlib.Core.Bool.{Bool}
 use mathlib.Core.List.{List, [], _∷_, _++_}
 use mathlib.Core.Option.{none, some}
-use Prim.Native.Nat.{ℕ, zero, suc, _+_, max}
+use Prim.Native.Nat.{ℕ, suc, _+_, max}
 use lib.Dec.{eqb}
 use lib.ListN.{length, getD}
 use Rattle.model.specs.Lists.{pick}

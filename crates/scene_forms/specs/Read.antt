@@ -8,7 +8,7 @@ use lib.Ieee.{Float}
 use lib.ListN.{length, getD, drop}
 use Rattle.borrowed.specs.Slices.{Words, Floats, Change}
 use Rattle.grammar.specs.Digits.{itemsText}
-use Rattle.grammar.specs.Forms.{Form, Document}
+use Rattle.grammar.specs.Forms.{Form}
 use Rattle.grammar.specs.Shape.{sorted, sized}
 use Rattle.grammar.specs.Parsed.{Got, fieldIn, fieldsIn, formsIn, parsed}
 use Rattle.brackets.specs.declared.Met.{Met}
@@ -21,7 +21,6 @@ use Rattle.scene_schema.specs.Schema.{kinds, kindAt, slotAt}
 use Rattle.scene_schema.specs.Numbers.{titles, noName, lettersOf, sortOf, sizeFor}
 use Rattle.scene_forms.specs.declared.Counts.{Counts}
 use Rattle.scene_marks.specs.declared.Mark.{Mark}
-use Rattle.scene_forms.specs.declared.Request.{Request}
 use Rattle.scene_forms.specs.declared.Spot.{Spot}
 use Rattle.scene_forms.specs.declared.Entry.{Entry}
 use Rattle.scene_forms.specs.declared.Row.{Row}

@@ -2,7 +2,7 @@
 -- kind; the floats and the two sorts of weights in slices of their own; where each table lies; the node and the time
 -- that are asked for. Definitions only.
 use mathlib.Core.Bool.{Bool, _||_}
-use mathlib.Core.List.{List, [], _∷_, _++_}
+use mathlib.Core.List.{List, [], _++_}
 use Prim.Native.Nat.{ℕ, _+_, _*_}
 use lib.Dec.{ltb}
 use lib.Ieee.{Float, binary32, ofBits}

@@ -87,7 +87,7 @@ fn opened(text: &[u8], k: usize, p: Place) -> Spot
     }
 }
 
-// Behind the fields of a form: its groups are judged at the closing bracket, which is compared with the end of the line.
+// Behind the fields of a form: its groups are judged at the closing bracket; that and the line's end are compared.
 fn closed(text: &[u8], k: usize, p: Place, s: Spot, marks: &[usize; 80]) -> Place
     requires { ⌜ k < 9 ⌝ }
     ensures { λ r. ⌜ closedAt (now (text .entry)) k p s (now (marks .entry)) r ⌝ }

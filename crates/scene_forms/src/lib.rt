@@ -46,7 +46,7 @@ struct Row {
     marks: [usize; 80],
 }
 
-// Between forms: the same, with the place of the next record, how far the lists of records reach, and what is asked for.
+// Between forms: the same, the place of the next record, how far the lists of records reach, and what is asked for.
 pub struct Place {
     pub next: usize,
     pub counts: Counts,

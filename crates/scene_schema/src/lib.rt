@@ -19,8 +19,8 @@ pub struct Name {
     pub high: u64,
 }
 
-// Where the items of a field go: a number or the bits of a float to no table, ids to `words`, others to one of the three
-// slices of floats.
+// Where the items of a field go: a number or the bits of a float to no table, ids to `words`, others to one of the
+// three slices of floats.
 pub enum Pool {
     Number,
     Bits,
