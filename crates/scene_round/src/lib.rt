@@ -1,0 +1,1 @@
+// A scene written and read back: laws alone, in proofs/. There is no code.
