@@ -6,3 +6,5 @@ pub mod Fields
 pub mod Decoded
 pub mod Tables
 pub mod Kept
+pub mod Records
+pub mod Said
