@@ -8,3 +8,6 @@ pub mod Tables
 pub mod Kept
 pub mod Records
 pub mod Said
+pub mod Filling
+pub mod FormsFill
+pub mod Fits
