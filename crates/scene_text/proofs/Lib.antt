@@ -1,0 +1,4 @@
+pub mod ScanLaws
+pub mod ReadLaws
+pub mod WordLaws
+pub mod AnswerLaws
