@@ -27,7 +27,8 @@ use Rattle.scene_forms.specs.declared.Spot.{Spot}
 use Rattle.scene_forms.specs.declared.Row.{Row}
 use Rattle.scene_forms.specs.declared.Place.{Place}
 use Rattle.scene_forms.specs.Filled.{Marked, opened, closed, putFields, putForm}
-use Rattle.scene_forms.specs.Filled.{far, ahead, listSlot, reachIn, requestIn, putForms}
+use Rattle.spelling.specs.Pushed.{farthest}
+use Rattle.scene_forms.specs.Filled.{ahead, listSlot, reachIn, requestIn, putForms}
 use Rattle.scene_forms.specs.Read.{Slices, SameLengths, Within, markedAt, FieldsRead, readAt}
 use Rattle.scene_forms.specs.Read.{openedAt, closedAt, FormRead, formsAt, FormsRead}
 use Rattle.scene_forms.proofs.FieldLaws.{long-stays, long-more}
@@ -227,11 +228,11 @@ module _ {text : List ℕ} {k : ℕ} {p : Place} {a b : Slices} {q : Place} {cou
 
 -- ---- between forms
 
-pub goes-on : (at n : ℕ) → at < far → at + n ≡ ahead at n
-goes-on at n h = ap (λ (b : Bool). pick b (at + n) at) (sym (lt-ltb at far h))
+pub goes-on : (at n : ℕ) → at < farthest → at + n ≡ ahead at n
+goes-on at n h = ap (λ (b : Bool). pick b (at + n) at) (sym (lt-ltb at farthest h))
 
-pub stands : (at n : ℕ) → far ≤ at → at ≡ ahead at n
-stands at n h = ap (λ (b : Bool). pick b (at + n) at) (sym (le-ltb at far h))
+pub stands : (at n : ℕ) → farthest ≤ at → at ≡ ahead at n
+stands at n h = ap (λ (b : Bool). pick b (at + n) at) (sym (le-ltb at farthest h))
 
 pub no-list : (k : ℕ) → (k ≡ 3 → ⊥) → (k ≡ 4 → ⊥) → (k ≡ 5 → ⊥) → 15 ≡ listSlot k
 no-list k a b c =

@@ -18,7 +18,8 @@ use Rattle.scene_schema.specs.declared.Pool.the-variants as pool
 use Rattle.scene_marks.specs.Marks.{setMark, wordsFrom, rowOf, strideOf}
 use Rattle.scene_forms.specs.declared.Counts.{Counts}
 use Rattle.scene_forms.specs.Filled.{Tables, realsOf, poolOf, countsAs, countItems, putItems, Filled, markOf}
-use Rattle.scene_forms.specs.Filled.{putField, Marked, putFields, Read, far, ahead, putRow, opened, putForm}
+use Rattle.spelling.specs.Pushed.{farthest}
+use Rattle.scene_forms.specs.Filled.{putField, Marked, putFields, Read, ahead, putRow, opened, putForm}
 use Rattle.scene_forms.specs.Filled.{putForms, afresh, Whole, putDocument}
 use Rattle.scene_forms.specs.Laid.{itemsOf, poolNumber, fieldsItems, formsItems, itemsFrom, noCounts}
 use Rattle.scene_forms.specs.Laid.{countField, countFields, marksOf, formsRows, countForms, rowsFrom}
@@ -95,8 +96,8 @@ pub record Laid (items : Pool → List ℕ) (records : List ℕ) (t : Tables) (a
       ≡ sets (t .nodeWeights) (t .counts .«node_weights») (realsOf (items pool.NodeWeights))
   pub meshWeights : u .meshWeights
       ≡ sets (t .meshWeights) (t .counts .«mesh_weights») (realsOf (items pool.MeshWeights))
-  pub rows : at + length records ≤ far → next ≡ at + length records
-  pub words : t .counts .ids + length (items pool.Ids) ≤ at → at + length records ≤ far
+  pub rows : at + length records ≤ farthest → next ≡ at + length records
+  pub words : t .counts .ids + length (items pool.Ids) ≤ at → at + length records ≤ farthest
       → u .words ≡ sets (sets (t .words) (t .counts .ids) (items pool.Ids)) at records
 
 -- the same of what is read
@@ -184,12 +185,12 @@ words-long (suc n) k w marks = ap suc (words-long n k (w + 1) marks)
 pub row-long : (k : ℕ) (marks : List ℕ) → length (rowOf k marks) ≡ strideOf k
 row-long k marks = words-long (strideOf k) k 0 marks
 
-ahead-near : (at n : ℕ) → at + n ≤ far → ahead at n ≡ at + n
-ahead-near at n h = go (ltb at far) refl
+ahead-near : (at n : ℕ) → at + n ≤ farthest → ahead at n ≡ at + n
+ahead-near at n h = go (ltb at farthest) refl
   where
-    go : (b : Bool) → ltb at far ≡ b → pick b (at + n) at ≡ at + n
+    go : (b : Bool) → ltb at farthest ≡ b → pick b (at + n) at ≡ at + n
     go true e = refl
-    go false e = omega (arith, ltb-false at far e)
+    go false e = omega (arith, ltb-false at farthest e)
 
 row-laid : {items : Pool → List ℕ} {t u : Tables} {at : ℕ} (k : ℕ) {marks laid : List ℕ} → marks ≡ laid
     → Laid items [] t at u at → Laid items (rowOf k laid) t at (putRow k at marks u) (ahead at (strideOf k))
@@ -265,7 +266,7 @@ document-laid text k (fs ∷ d) w =
 
 -- all of a document, where the records begin at the end of the ids
 pub whole-words : (text : List ℕ) (d : Document) (w : Whole) → w .read .filled .tables .counts ≡ noCounts
-    → w .read .rows ≡ length (itemsFrom pool.Ids 0 d) → w .read .rows + length (rowsFrom 0 d noCounts) ≤ far
+    → w .read .rows ≡ length (itemsFrom pool.Ids 0 d) → w .read .rows + length (rowsFrom 0 d noCounts) ≤ farthest
     → putDocument text 0 d w .read .filled .tables .words
     ≡ sets (w .read .filled .tables .words) 0 (itemsFrom pool.Ids 0 d ++ rowsFrom 0 d noCounts)
 whole-words text d w e at h =

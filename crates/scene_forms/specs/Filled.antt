@@ -12,6 +12,7 @@ use Rattle.model.specs.Lists.{pick}
 use Rattle.grammar.specs.Digits.{itemsText}
 use Rattle.grammar.specs.Forms.{Field, Form, Document}
 use Rattle.grammar.specs.Shape.{fieldHolds}
+use Rattle.spelling.specs.Pushed.{farthest}
 use Rattle.brackets.specs.declared.Met.{Met}
 use Rattle.brackets.specs.Met.{meet, meets, judge}
 use Rattle.scene_schema.specs.declared.Pool.{Pool}
@@ -136,12 +137,9 @@ pub record Read : Type 0 where
   pub reach : ℕ
   pub request : Request
 
--- a place so far on that no slice has it
-abbrev pub far : ℕ
-far = 0x8000_0000_0000_0000
-
+-- the place of the next record but n words; it stands still where no slice reaches
 abbrev pub ahead : ℕ → ℕ → ℕ
-ahead at n = pick (ltb at far) (at + n) at
+ahead at n = pick (ltb at farthest) (at + n) at
 
 -- the slot that lists records of the next kind, first and count; any other kind has none
 abbrev pub listSlot : ℕ → ℕ

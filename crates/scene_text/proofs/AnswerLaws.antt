@@ -12,7 +12,7 @@ use Rattle.model.specs.Lists.{pick}
 use Rattle.model.specs.Refusals.{number, badForm, outOfTable, shortOutput}
 use Rattle.brackets.specs.declared.Met.{Met}
 use Rattle.scene_forms.specs.declared.Found.{Found}
-use Rattle.scene_forms.specs.Filled.{far}
+use Rattle.spelling.specs.Pushed.{farthest}
 use Rattle.scene_forms.specs.Read.{Slices, DocumentRead}
 use Rattle.scene_text.specs.declared.Needed.{Needed}
 use Rattle.scene_text.specs.declared.Reading.{Reading}
@@ -49,7 +49,7 @@ module _ (len : ℕ) (f : Found) (room : Needed) (h : numberFor len f room ≡ 0
   pub words-fit : f .place .counts .ids + wordsOfCounts 0 (f .counts) ≤ 0xffff_ffff
   words-fit =
       let x = f .place .counts .ids + wordsOfCounts 0 (f .counts) in
-      let l = ltb-false (roomIn (room .words)) (min x far) (or-first _ _ (clear .fits)) in
+      let l = ltb-false (roomIn (room .words)) (min x farthest) (or-first _ _ (clear .fits)) in
       omega arith
 
 -- ---- a scene

@@ -23,7 +23,8 @@ use Rattle.scene_marks.specs.Marks.{strideOf}
 use Rattle.scene_forms.specs.declared.Found.{Found}
 use Rattle.scene_forms.specs.declared.Request.{Request}
 use Rattle.scene_forms.specs.declared.Counts.{Counts}
-use Rattle.scene_forms.specs.Filled.{far, Whole, realsOf, putDocument}
+use Rattle.spelling.specs.Pushed.{farthest}
+use Rattle.scene_forms.specs.Filled.{Whole, realsOf, putDocument}
 use Rattle.scene_forms.specs.Laid.{itemOf, itemsFrom, rowsFrom, noCounts, requestOf}
 use Rattle.scene_forms.specs.Said.{idsOf, tablesOf, headerFrom, tableAt, headerOf, countOf, sceneForm, leaves}
 use Rattle.scene_forms.specs.Read.{Slices, DocumentRead, wholeAt, startAt}
@@ -44,12 +45,12 @@ count-words k [] = refl
 count-words k (fs ∷ d) = ap (λ (n : ℕ). length fs * strideOf k + n) (count-words (suc k) d)
 
 -- a number past the end of any slice is no more short than what it stands for
-far-short : (len x : ℕ) → ltb (roomIn len) (min x far) ≡ ltb (roomIn len) x
+far-short : (len x : ℕ) → ltb (roomIn len) (min x farthest) ≡ ltb (roomIn len) x
 far-short len x = go (ltb (roomIn len) x) refl
   where
-    go : (t : Bool) → ltb (roomIn len) x ≡ t → ltb (roomIn len) (min x far) ≡ t
-    go true e = lt-ltb (roomIn len) (min x far) (let h = ltb-true (roomIn len) x e in omega arith)
-    go false e = le-ltb (roomIn len) (min x far) (let h = ltb-false (roomIn len) x e in omega arith)
+    go : (t : Bool) → ltb (roomIn len) x ≡ t → ltb (roomIn len) (min x farthest) ≡ t
+    go true e = lt-ltb (roomIn len) (min x farthest) (let h = ltb-true (roomIn len) x e in omega arith)
+    go false e = le-ltb (roomIn len) (min x farthest) (let h = ltb-false (roomIn len) x e in omega arith)
 
 -- the lengths that the reader is lent
 abbrev pub roomFor : Lengths → Needed
@@ -153,13 +154,13 @@ module _ {text : List ℕ} {f : Found} (s : Scanned text f) where
 
   -- the second pass fills them
   pub slices-told : {met : Met} {l : Change Slices} {g : Found} → DocumentRead text (f .place .counts .ids) met l g
-      → length (tablesOf d .words) ≤ far → l .to ≡ laidIn d (l .from)
+      → length (tablesOf d .words) ≤ farthest → l .to ≡ laidIn d (l .from)
   unfolding tablesOf
   slices-told {met} {l} {g} r h =
       let w : Whole = wholeAt (l .from) [] (startAt (f .place .counts .ids) met) in
       let t = document-laid text 0 d w in
       let ids : f .place .counts .ids ≡ length (idsOf d) = ap (λ (c : Counts). c .ids) (told-counts (s .read)) in
-      let bound : f .place .counts .ids + length (rowsFrom 0 d noCounts) ≤ far
+      let bound : f .place .counts .ids + length (rowsFrom 0 d noCounts) ≤ farthest
       = omega (arith, h, ids, length-append (idsOf d) (rowsFrom 0 d noCounts)) in
       λ i. record {
         words = (ap (λ (x : Whole). x .read .filled .tables .words) (r .read) ∙ whole-words text d w refl ids bound) i;

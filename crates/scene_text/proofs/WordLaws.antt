@@ -11,25 +11,25 @@ use lib.Dec.{ltb}
 use lib.ListN.{length, getD, drop, drop-of-length-le}
 use lib.Seq.{drop-cons}
 use Rattle.scene_marks.specs.Marks.{strideOf}
-use Rattle.scene_forms.specs.Filled.{far}
+use Rattle.spelling.specs.Pushed.{farthest}
 use Rattle.scene_text.specs.Scanned.{wordsOfCounts, roomIn}
 
 -- ---- so many records more
 
 -- records of no words
-pub none-more : (sum count stride : ℕ) → stride ≡ 0 → sum ≤ far → sum ≡ min (sum + count * stride) far
+pub none-more : (sum count stride : ℕ) → stride ≡ 0 → sum ≤ farthest → sum ≡ min (sum + count * stride) farthest
 none-more sum count stride e h =
     let z : count * stride ≡ 0 = ap (λ (s : ℕ). count * s) e ∙ mul-zero count in omega arith
 
 -- as many as there is room for
-pub in-reach : (sum count stride : ℕ) → sum ≤ far → count ≤ (far - sum) / stride → sum + count * stride ≤ far
-in-reach sum count stride h l = omega (arith, mul-le-mul-right stride l, div-mul-le-self (far - sum) stride)
+pub in-reach : (sum count stride : ℕ) → sum ≤ farthest → count ≤ (farthest - sum) / stride → sum + count * stride ≤ farthest
+in-reach sum count stride h l = omega (arith, mul-le-mul-right stride l, div-mul-le-self (farthest - sum) stride)
 
-pub out-of-reach : (sum count stride : ℕ) → (stride ≡ 0 → ⊥) → sum ≤ far → (far - sum) / stride < count
-    → far < sum + count * stride
+pub out-of-reach : (sum count stride : ℕ) → (stride ≡ 0 → ⊥) → sum ≤ farthest → (farthest - sum) / stride < count
+    → farthest < sum + count * stride
 out-of-reach sum count stride s h l =
     let q : zero < stride = omega arith in
-    let m = div-lt-iff-lt-mul {k = stride} {x = far - sum} {y = count} q .0 l in omega arith
+    let m = div-lt-iff-lt-mul {k = stride} {x = farthest - sum} {y = count} q .0 l in omega arith
 
 -- ---- one kind of records after the other
 
@@ -40,8 +40,8 @@ unfolding wordsOfCounts
 kind-words k ns h = rw (add-one, drop-cons ns k 0)
 
 -- a sum that stops at a number too large stops there however it goes on
-pub stops : (sum n more r all : ℕ) → r ≡ min (sum + n) far → min (sum + (n + more)) far ≡ all
-    → min (r + more) far ≡ all
+pub stops : (sum n more r all : ℕ) → r ≡ min (sum + n) farthest → min (sum + (n + more)) farthest ≡ all
+    → min (r + more) farthest ≡ all
 stops sum n more r all e h = omega arith
 
 pub no-kind-left : (k : ℕ) (ns : List ℕ) → length ns ≤ k → wordsOfCounts k (drop k ns) ≡ 0

@@ -15,7 +15,7 @@ use Rattle.tables.specs.declared.Header.{Header}
 use Rattle.grammar.specs.Forms.{Document}
 use Rattle.grammar.specs.Parsed.{readingOf}
 use Rattle.scene_schema.specs.Schema.{kinds}
-use Rattle.scene_forms.specs.Filled.{far}
+use Rattle.spelling.specs.Pushed.{farthest}
 use Rattle.scene_forms.specs.Read.{Slices}
 use Rattle.scene_text.specs.declared.Reading.{Reading}
 use Rattle.scene_text.specs.declared.Needed.{Needed}
@@ -97,7 +97,7 @@ roomTests text =
 abbrev pub neededAs : ℕ → Lengths → Needed
 neededAs n l = record {
   number = n;
-  words = min (l .words) far;
+  words = min (l .words) farthest;
   floats = l .floats;
   «node_weights» = l .nodeWeights;
   «mesh_weights» = l .meshWeights;

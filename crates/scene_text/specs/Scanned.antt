@@ -11,7 +11,7 @@ use Rattle.model.specs.Refusals.{number, badForm, outOfTable, shortOutput}
 use Rattle.brackets.specs.Met.{metAt}
 use Rattle.scene_marks.specs.Marks.{strideOf}
 use Rattle.scene_forms.specs.declared.Found.{Found}
-use Rattle.scene_forms.specs.Filled.{far}
+use Rattle.spelling.specs.Pushed.{farthest}
 use Rattle.scene_forms.specs.Read.{Slices, DocumentRead}
 use Rattle.scene_forms.specs.Said.{headerFrom, tableAt}
 use Rattle.scene_text.specs.declared.Needed.{Needed}
@@ -39,7 +39,7 @@ wordsOfCounts k (n ∷ ns) = n * strideOf k + wordsOfCounts (suc k) ns
 
 -- with the ids, or a number that no slice has room for
 abbrev pub wordsFor : ℕ → List ℕ → ℕ
-wordsFor ids counts = min (ids + wordsOfCounts 0 counts) far
+wordsFor ids counts = min (ids + wordsOfCounts 0 counts) farthest
 
 -- a place is a word of 32 bits, so that no table has room for more
 abbrev pub roomIn : ℕ → ℕ

@@ -15,7 +15,7 @@ ghost use mathlib.Core.Path.{_≡_};
 ghost use Prim.Native.Nat.{_+_, _*_, _≤_, min};
 ghost use lib.Dec.{ltb};
 ghost use lib.ListN.{getD};
-ghost use Rattle.scene_forms.specs.Filled.{far};
+ghost use Rattle.spelling.specs.Pushed.{farthest};
 ghost use Rattle.scene_forms.specs.Read.{slices};
 ghost use Rattle.scene_forms.specs.Said.{headerFrom, tableAt};
 ghost use Rattle.scene_text.specs.Scanned.{Scanned, isReading, leavesTable, wordsOfCounts, wordsFor, roomIn};
@@ -78,8 +78,8 @@ fn leaves_table(f: Found) -> bool
 
 // So many records of so many words more, or a number that no slice has room for.
 fn more_words(sum: usize, count: usize, stride: usize) -> usize
-    requires { ⌜ sum ≤ far ⌝ }
-    ensures { λ r. ⌜ (r ≡ min (sum + count * stride) far) × (r ≤ far) ⌝ }
+    requires { ⌜ sum ≤ farthest ⌝ }
+    ensures { λ r. ⌜ (r ≡ min (sum + count * stride) farthest) × (r ≤ farthest) ⌝ }
 {
     if stride == 0 {
         return sum;
@@ -92,8 +92,8 @@ fn more_words(sum: usize, count: usize, stride: usize) -> usize
 
 // How many words the ids and all records take.
 fn words_for(ids: usize, counts: [usize; 9]) -> usize
-    requires { ⌜ ids ≤ far ⌝ }
-    ensures { λ r. ⌜ (r ≡ wordsFor ids counts) × (r ≤ far) ⌝ }
+    requires { ⌜ ids ≤ farthest ⌝ }
+    ensures { λ r. ⌜ (r ≡ wordsFor ids counts) × (r ≤ farthest) ⌝ }
 {
     let mut sum = ids;
     let mut k = 0;
@@ -116,7 +116,7 @@ fn is_short(len: usize, needed: usize) -> bool
 
 // What a text that was read draws, with slices of so many entries.
 fn number_for(len: usize, f: Found, room: Needed) -> u32
-    requires { ⌜ f .place .counts .ids ≤ far ⌝ }
+    requires { ⌜ f .place .counts .ids ≤ farthest ⌝ }
     ensures { λ r. ⌜ r ≡ numberFor len f room ⌝ }
 {
     if !is_reading(len, f) {

@@ -2,7 +2,7 @@
 use Prim.Native.Nat.{_+_, _*_, _≤_}
 use native.Mathlib.Omega.{arith}
 use borrow.Author.Needs.{needs}
-use Rattle.scene_forms.specs.Filled.{far}
+use Rattle.spelling.specs.Pushed.{farthest}
 use Rattle.scene_text.proofs.WordLaws.{none-more, in-reach, out-of-reach}
 use Rattle.scene_text.proofs.tables_read.more_words.Statement.{statement}
 use Rattle.scene_text.proofs.tables_read.more_words.Tie as tie
@@ -12,7 +12,7 @@ returns c =
     let a = c .before .args in
     (none-more (a .sum) (a .count) (a .stride) (c .if1 .taken) (c .before .pre), c .before .pre)
 
-few : (c : tie.Then2) → let a = c .before .before .args in a .sum + a .count * a .stride ≤ far
+few : (c : tie.Then2) → let a = c .before .before .args in a .sum + a .count * a .stride ≤ farthest
 few c =
     let a = c .before .before .args in
     in-reach (a .sum) (a .count) (a .stride) (c .before .before .pre) (c .if2 .taken)

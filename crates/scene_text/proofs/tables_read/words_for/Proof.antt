@@ -6,7 +6,7 @@ use native.Mathlib.Omega.{arith}
 use borrow.Author.Needs.{needs}
 use lib.ListN.{getD, drop}
 use Rattle.scene_marks.specs.Marks.{strideOf}
-use Rattle.scene_forms.specs.Filled.{far}
+use Rattle.spelling.specs.Pushed.{farthest}
 use Rattle.scene_text.specs.Scanned.{wordsOfCounts, wordsFor}
 use Rattle.scene_text.proofs.WordLaws.{kind-words, stops, no-kind-left}
 use Rattle.scene_text.proofs.tables_read.words_for.Statement.{statement}
@@ -14,7 +14,7 @@ use Rattle.scene_text.proofs.tables_read.words_for.Tie as tie
 
 abbrev Inv-loop : tie.InvT-loop
 Inv-loop ids counts sum₀ k₀ sum k =
-    (min (sum + wordsOfCounts k (drop k counts)) far ≡ wordsFor ids counts) × ((sum ≤ far) × (k ≤ 9))
+    (min (sum + wordsOfCounts k (drop k counts)) farthest ≡ wordsFor ids counts) × ((sum ≤ farthest) × (k ≤ 9))
 
 abbrev μ-loop : tie.MeasureT-loop
 μ-loop ids counts sum₀ k₀ sum k = 9 - k
@@ -27,9 +27,9 @@ loop-again c =
     let sum = l .loop .sum in
     let more = wordsOfCounts (k + 1) (drop (k + 1) counts) in
     let n = getD counts k 0 in
-    let step : c .more-words .result ≡ min (sum + n * strideOf k) far
-    = c .more-words .ensures .0 ∙ ap (λ (s : ℕ). min (sum + n * s) far) (c .before .stride .ensures) in
-    let all = ap (λ (w : ℕ). min (sum + w) far) (sym (kind-words k counts (omega arith))) ∙ l .loop .inv .0 in (
+    let step : c .more-words .result ≡ min (sum + n * strideOf k) farthest
+    = c .more-words .ensures .0 ∙ ap (λ (s : ℕ). min (sum + n * s) farthest) (c .before .stride .ensures) in
+    let all = ap (λ (w : ℕ). min (sum + w) farthest) (sym (kind-words k counts (omega arith))) ∙ l .loop .inv .0 in (
       stops sum (n * strideOf k) more (c .more-words .result) (wordsFor (l .before .args .ids) counts) step all,
       (c .more-words .ensures .1, omega arith),
     )
