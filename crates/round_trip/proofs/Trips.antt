@@ -33,7 +33,8 @@ use Rattle.scene_round.proofs.Kept.{document-kept}
 use Rattle.scene_round.proofs.Tables.{Short}
 use Rattle.scene_text.specs.declared.Reading.{Reading}
 use Rattle.scene_text.specs.Scanned.{roomIn}
-use Rattle.scene_text.specs.Reading.{read, Lengths, lengthsOf, neededBy, isShort, readNumber, SceneRead, laidIn, acceptedAs, refusedBy}
+use Rattle.scene_text.specs.Reading.{read, Lengths, lengthsOf, neededBy, isShort, readNumber, SceneRead, laidIn}
+use Rattle.scene_text.specs.Reading.{acceptedAs, refusedBy}
 use Rattle.scene_writing.specs.declared.Written.{Written}
 use Rattle.scene_writing.specs.Writing.{sceneText, writeNumber, SceneWritten}
 use Rattle.round_trip.specs.Round.{Trip, readBack, Same}
@@ -141,8 +142,8 @@ behind d s = record {
 }
 
 module _ (d : Document) (s : Slices) (h : Room (lengthsOf s) (neededBy d)) where
-  laid : lentAs (laidIn d s .words) (laidIn d s .floats) (laidIn d s .nodeWeights) (laidIn d s .meshWeights) (headerOf d)
-      ≡ lentOf d (behind d s)
+  laid : let t = laidIn d s in
+      lentAs (t .words) (t .floats) (t .nodeWeights) (t .meshWeights) (headerOf d) ≡ lentOf d (behind d s)
   laid = λ i. lentAs (stored (s .words) (tablesOf d .words) (omega (arith, h .words)) i)
       (stored (s .floats) (tablesOf d .floats) (omega (arith, h .floats)) i)
       (stored (s .nodeWeights) (tablesOf d .nodeWeights) (omega (arith, h .nodeWeights)) i)

@@ -32,7 +32,8 @@ use Rattle.scene_forms.specs.Said.{countOf, formsOf, nodeOf, timeOf, leaves}
 use Rattle.scene_spelling.specs.Written.{documentOf}
 use Rattle.scene_round.proofs.Filling.{Lent32}
 use Rattle.scene_round.proofs.FormsFill.{FormFills, scene-fills, node-fills, channel-fills, mesh-fills}
-use Rattle.scene_round.proofs.FormsFill.{primitive-fills, target-fills, between-fills, skin-fills, skeleton-fills}
+use Rattle.scene_round.proofs.FormsFill.{primitive-fills, target-fills, between-fills, skin-fills}
+use Rattle.scene_round.proofs.FormsFill.{skeleton-fills}
 
 -- ---- a document, kind by kind
 

@@ -22,7 +22,8 @@ none-more sum count stride e h =
     let z : count * stride ≡ 0 = ap (λ (s : ℕ). count * s) e ∙ mul-zero count in omega arith
 
 -- as many as there is room for
-pub in-reach : (sum count stride : ℕ) → sum ≤ farthest → count ≤ (farthest - sum) / stride → sum + count * stride ≤ farthest
+pub in-reach : (sum count stride : ℕ) → sum ≤ farthest → count ≤ (farthest - sum) / stride
+    → sum + count * stride ≤ farthest
 in-reach sum count stride h l = omega (arith, mul-le-mul-right stride l, div-mul-le-self (farthest - sum) stride)
 
 pub out-of-reach : (sum count stride : ℕ) → (stride ≡ 0 → ⊥) → sum ≤ farthest → (farthest - sum) / stride < count

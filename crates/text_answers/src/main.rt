@@ -1,5 +1,5 @@
-// Reads texts, each up to a line with '%', and prints for each the number that the reader answers; where that is 0, also
-// the node and the bits of the time, and whether the scene is written as the same text.
+// Reads texts, each up to a line with '%', and prints for each the number that the reader answers; where that is 0,
+// also the node and the bits of the time, and whether the scene is written as the same text.
 use brackets::Met;
 use libc::STDIN_FILENO;
 use libc::STDOUT_FILENO;

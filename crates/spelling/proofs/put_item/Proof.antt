@@ -47,7 +47,8 @@ returns-2 c =
     let count = a .before .places .ensures .0 in
     let some = places-some 9 (p .before .before .before .args .n) in
     rw (a .before .before .if1 .left, ← count)
-    (digits-put 10 _ _ _ _ _ (omega arith) (omega arith) (p .put .ensures) (d .digits2 .ensures) (a .advanced2 .ensures))
+    (digits-put 10 _ _ _ _ _ (omega arith) (omega arith) (p .put .ensures) (d .digits2 .ensures)
+    (a .advanced2 .ensures))
 
 pub put-item-spec : {M : Type 1} → statement M
 put-item-spec =

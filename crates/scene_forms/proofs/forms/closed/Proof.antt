@@ -8,7 +8,9 @@ use Rattle.scene_forms.proofs.forms.closed.Statement.{statement}
 use Rattle.scene_forms.proofs.forms.closed.Tie as tie
 
 ahead-requires : tie.Need-ahead-requires
-ahead-requires c κs = omega (arith, c .stride .ensures, stride-few (c .before .before .before .before .before .before .before .before .before .before .before .before .args .k))
+ahead-requires c κs =
+    let a = c .before .before .before .before .before .before .before .before .before .before .before .before .args in
+    omega (arith, c .stride .ensures, stride-few (a .k))
 
 returns : tie.Need-returns
 returns c =

@@ -29,7 +29,9 @@ loop-holds : tie.Need-loop-holds Inv-loop μ-loop
 loop-holds c = document-start _ _ _ _ (c .start .ensures) refl refl
 
 forms-of-requires : tie.Need-forms-of-requires Inv-loop μ-loop
-forms-of-requires c κs = let t = c .before .before .before .before in (t .before .loop .inv .within, t .loop-test .taken)
+forms-of-requires c κs =
+    let t = c .before .before .before .before in
+    (t .before .loop .inv .within, t .loop-test .taken)
 
 array-write-counts : tie.Need-array-write-counts Inv-loop μ-loop
 array-write-counts c = let t = turned (put c) in omega (arith, t .loop-test .taken, t .before .loop .inv .nine)
