@@ -29,6 +29,7 @@ use Rattle.scene_round.specs.Read.{lentOf}
 use Rattle.scene_round.proofs.Filling.{Lent32}
 use Rattle.scene_round.proofs.Fits.{document-fits, document-holds, document-listed, document-spelled, node-asked}
 use Rattle.scene_round.proofs.Fits.{time-asked}
+use Rattle.scene_round.proofs.Drawn.{sound-kept}
 use Rattle.scene_round.proofs.Kept.{document-kept}
 use Rattle.scene_round.proofs.Tables.{Short}
 use Rattle.scene_text.specs.declared.Reading.{Reading}
@@ -182,4 +183,7 @@ round-trip l node time {out} {w} {c} {r} has low held t =
           (λ i. documentOf (back i) (a i .node) (a i .time))
           ∙ document-kept d (behind d (c .from)) (document-fits l checked has node time low held)
           (document-holds l checked has node time low held) (short d (c .from) room);
+      tables =
+          ap tablesNumber back
+          ∙ sound-kept l checked has node time low held (behind d (c .from)) (short d (c .from) room);
     }

@@ -9,7 +9,7 @@ use lib.Ieee.{Float}
 use lib.ListN.{take}
 use Rattle.borrowed.specs.Slices.{Words, Change}
 use Rattle.tables.specs.Decoded.{Lent}
-use Rattle.checks.specs.Drawn.{lentAs}
+use Rattle.checks.specs.Drawn.{lentAs, tablesNumber}
 use Rattle.scene_forms.specs.Read.{Slices}
 use Rattle.scene_spelling.specs.Written.{documentOf}
 use Rattle.scene_text.specs.declared.Reading.{Reading}
@@ -32,9 +32,10 @@ readBack c r =
     lentAs (c .to .words) (c .to .floats) (c .to .nodeWeights) (c .to .meshWeights) (r .header)
 
 -- the reader accepts, answers the same node and time, and every record of every table, used or not, says what it said:
--- the two scenes have the same document
+-- the two scenes have the same document; and the tables that were read draw no number
 pub record Same (l : Lent) (node : ℕ) (time : Float) (c : Change Slices) (r : Reading) : Type 0 where
   pub number : r .number ≡ 0
   pub node-kept : r .node ≡ node
   pub time-kept : r .time ≡ time
   pub records : documentOf (readBack c r) (r .node) (r .time) ≡ documentOf l node time
+  pub tables : tablesNumber (readBack c r) ≡ 0

@@ -51,6 +51,15 @@ readAt pool.Floats l at n = bitsOf (part (l .floats) at n)
 readAt pool.NodeWeights l at n = bitsOf (part (l .nodeWeights) at n)
 readAt pool.MeshWeights l at n = bitsOf (part (l .meshWeights) at n)
 
+-- how long the slice of a pool is
+abbrev pub roomOf : Pool → Lent → ℕ
+roomOf pool.Number l = 0
+roomOf pool.Bits l = 0
+roomOf pool.Ids l = length (l .words)
+roomOf pool.Floats l = length (l .floats)
+roomOf pool.NodeWeights l = length (l .nodeWeights)
+roomOf pool.MeshWeights l = length (l .meshWeights)
+
 -- where the items of slot j start
 abbrev pub startAt : ℕ → Form → Counts → ℕ → ℕ
 startAt k f c j = startIn (poolOf k j) (countFields k 0 (take j f) c)
@@ -62,6 +71,8 @@ pub record FormIn (l : Lent) (k : ℕ) (f : Form) (c : Counts) : Type 0 where
   pub shaped : T (formHolds (kindAt k) f)
   pub short : (j : ℕ) (xs : List ℕ) → Table (poolOf k j) → fieldAt f j ≡ some xs
       → startAt k f c j + length xs < 0x1_0000_0000
+  pub inside : (j : ℕ) (xs : List ℕ) → Table (poolOf k j) → fieldAt f j ≡ some xs
+      → startAt k f c j + length xs ≤ roomOf (poolOf k j) l
   pub items : (j : ℕ) (xs : List ℕ) → Table (poolOf k j) → fieldAt f j ≡ some xs → Small xs
       → T (sorted (sortOf (poolOf k j)) xs) → readAt (poolOf k j) l (startAt k f c j) (length xs) ≡ xs
 
@@ -121,7 +132,7 @@ module _ {l : Lent} {k : ℕ} {f : Form} {c : Counts} (r : FormIn l k f c) where
   pub form-count : length f ≡ getD slotCounts k 0
   form-count = form-long (kindAt k .slots) f (r .fits) ∙ sym (kind-is k (r .known) .count)
 
-  laid : (j : ℕ) (xs : List ℕ) → fieldAt f j ≡ some xs
+  pub laid : (j : ℕ) (xs : List ℕ) → fieldAt f j ≡ some xs
       → markAt (marksOf k f c) j ≡ markIn k j (some xs) (countFields k 0 (take j f) c)
   laid j xs e =
       mark-laid k f c j few ∙ ap (λ (x : Field). markIn k j x (countFields k 0 (take j f) c)) e
@@ -141,12 +152,12 @@ module _ {l : Lent} {k : ℕ} {f : Form} {c : Counts} (r : FormIn l k f c) where
   item-said j s xs e =
       ap (λ (x : Field). getD (itemsOf x) 0 0 ∷ []) e ∙ sym (by-entries 0 xs 1 (exact-long j 1 xs s e))
 
-  first-word : (j : ℕ) → cut (markAt (marksOf k f c) j .first) ≡ itemOf f j 0
+  pub first-word : (j : ℕ) → cut (markAt (marksOf k f c) j .first) ≡ itemOf f j 0
   first-word j =
       ap (λ (m : Mark). cut (m .first)) (mark-told k f c j few)
       ∙ mod-eq-of-lt (item-small (kindAt k .slots) f j 0 (r .fits))
 
-  second-word : (j : ℕ) → cut (markAt (marksOf k f c) j .second) ≡ itemOf f j 1
+  pub second-word : (j : ℕ) → cut (markAt (marksOf k f c) j .second) ≡ itemOf f j 1
   second-word j =
       ap (λ (m : Mark). cut (m .second)) (mark-told k f c j few)
       ∙ mod-eq-of-lt (item-small (kindAt k .slots) f j 1 (r .fits))
@@ -164,14 +175,17 @@ module _ {l : Lent} {k : ℕ} {f : Form} {c : Counts} (r : FormIn l k f c) where
 
   -- ---- items that stand in a table
 
+  pub start-is : (j : ℕ) (xs : List ℕ) → Table (poolOf k j) → fieldAt f j ≡ some xs
+      → cut (markAt (marksOf k f c) j .start) ≡ startAt k f c j
+  start-is j xs t e =
+      let near : startAt k f c j < 0x1_0000_0000 = omega (arith, r .short j xs t e) in
+      ap (λ (m : Mark). cut (m .start)) (laid j xs e) ∙ mod-eq-of-lt near
+
   items-said : (j n : ℕ) → Table (poolOf k j) → ((xs : List ℕ) → fieldAt f j ≡ some xs → n ≡ length xs)
       → Says f j (readAt (poolOf k j) l (cut (markAt (marksOf k f c) j .start)) n)
   items-said j n t long xs e =
-      let p = poolOf k j in
-      let short = r .short j xs t e in
-      let near : startAt k f c j < 0x1_0000_0000 = omega arith in
-      let start = ap (λ (m : Mark). cut (m .start)) (laid j xs e) ∙ mod-eq-of-lt near in
-      (λ i. readAt p l (start i) (long xs e i)) ∙ r .items j xs t e (told j xs e .small) (told j xs e .sorts)
+      (λ i. readAt (poolOf k j) l (start-is j xs t e i) (long xs e i))
+      ∙ r .items j xs t e (told j xs e .small) (told j xs e .sorts)
 
   pub exact-said : (j n : ℕ) → Table (poolOf k j) → sizeFor (ruleAt k j) ≡ exactly n
       → Says f j (readAt (poolOf k j) l (cut (markAt (marksOf k f c) j .start)) n)
@@ -194,7 +208,7 @@ module _ {l : Lent} {k : ℕ} {f : Form} {c : Counts} (r : FormIn l k f c) where
 
   -- ---- which fields are there
 
-  is-there : (j : ℕ) → markAt (marksOf k f c) j .there ≡ thereIn (fieldAt f j)
+  pub is-there : (j : ℕ) → markAt (marksOf k f c) j .there ≡ thereIn (fieldAt f j)
   is-there j = ap (λ (m : Mark). m .there) (mark-told k f c j few)
 
   pub optional : (j : ℕ) {xs : List ℕ} → Says f j xs

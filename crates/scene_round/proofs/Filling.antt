@@ -55,7 +55,7 @@ module _ {A : Type 0} (P : A → Type 0) (d : A) (z : P d) where
   of-part : (l : List A) (at n : ℕ) → ((i : ℕ) → P (getD l i d)) → (i : ℕ) → P (getD (part l at n) i d)
   of-part l at n h = of-first n (drop at l) (of-behind at l h)
 
-part-long : {A : Type 0} (l : List A) (at n : ℕ) → at + n ≤ length l → length (part l at n) ≡ n
+pub part-long : {A : Type 0} (l : List A) (at n : ℕ) → at + n ≤ length l → length (part l at n) ≡ n
 part-long l at n h = length-take-le n (drop at l) (simp length-drop (omega arith))
 
 words-small : (l : List ℕ) → Words32 l → Small l
@@ -124,7 +124,7 @@ whole s c w e =
     (subst (λ (n : ℕ). T (eqb n 0)) (sym (mul-mod-left c w)) (eqb-refl 0))
 
 -- a part of a slot that is absent is asked nothing
-marked-fits : (b fits : Bool) → pick b fits true ≡ true → b ≡ true → fits ≡ true
+pub marked-fits : (b fits : Bool) → pick b fits true ≡ true → b ≡ true → fits ≡ true
 marked-fits true fits h e = h
 marked-fits false fits h e = absurd (false≢true e)
 

@@ -129,7 +129,7 @@ tag-fills : {t : Slot} (tag n : ℕ) → T (fieldHolds t (some [])) → Fills t 
 tag-fills tag n h = there-fills (eqb tag n) (λ e. record { small = tt; holds = h })
 
 -- how many floats a value of a kind has
-abbrev wide : ℕ → ℕ
+abbrev pub wide : ℕ → ℕ
 wide kind = width (kindOf (kindFor kind))
 
 values-fill : (l : List Float) → Floats32 l → {t : Slot} (kind asked : ℕ) (p : Part) → t .sort ≡ floats

@@ -51,39 +51,39 @@ words-next k (fs ∷ d) (suc o) i e = omega (arith, words-next (suc k) d o i (om
 
 module _ (d : Document) where
   -- a table behind the one before
-  table-next : (k at : ℕ) → at ≡ length (idsOf d) + rowWords 0 (take k d)
+  pub table-next : (k at : ℕ) → at ≡ length (idsOf d) + rowWords 0 (take k d)
       → at + countOf d k * strideOf k ≡ length (idsOf d) + rowWords 0 (take (suc k) d)
   table-next k at e = omega (arith, words-next 0 d k k (omega arith))
 
-  nodes-at : headerOf d .graph .nodes .at ≡ length (idsOf d) + rowWords 0 (take 1 d)
+  pub nodes-at : headerOf d .graph .nodes .at ≡ length (idsOf d) + rowWords 0 (take 1 d)
   unfolding headerOf rowWords
   nodes-at = omega (arith, table-next 0 (length (idsOf d)) (omega arith))
 
-  channels-at : headerOf d .channels .at ≡ length (idsOf d) + rowWords 0 (take 2 d)
+  pub channels-at : headerOf d .channels .at ≡ length (idsOf d) + rowWords 0 (take 2 d)
   unfolding headerOf
   channels-at = table-next 1 (headerOf d .graph .nodes .at) nodes-at
 
-  meshes-at : headerOf d .meshes .meshes .at ≡ length (idsOf d) + rowWords 0 (take 3 d)
+  pub meshes-at : headerOf d .meshes .meshes .at ≡ length (idsOf d) + rowWords 0 (take 3 d)
   unfolding headerOf
   meshes-at = table-next 2 (headerOf d .channels .at) channels-at
 
-  primitives-at : headerOf d .meshes .primitives .at ≡ length (idsOf d) + rowWords 0 (take 4 d)
+  pub primitives-at : headerOf d .meshes .primitives .at ≡ length (idsOf d) + rowWords 0 (take 4 d)
   unfolding headerOf
   primitives-at = table-next 3 (headerOf d .meshes .meshes .at) meshes-at
 
-  targets-at : headerOf d .meshes .targets .at ≡ length (idsOf d) + rowWords 0 (take 5 d)
+  pub targets-at : headerOf d .meshes .targets .at ≡ length (idsOf d) + rowWords 0 (take 5 d)
   unfolding headerOf
   targets-at = table-next 4 (headerOf d .meshes .primitives .at) primitives-at
 
-  betweens-at : headerOf d .meshes .«in_betweens» .at ≡ length (idsOf d) + rowWords 0 (take 6 d)
+  pub betweens-at : headerOf d .meshes .«in_betweens» .at ≡ length (idsOf d) + rowWords 0 (take 6 d)
   unfolding headerOf
   betweens-at = table-next 5 (headerOf d .meshes .targets .at) targets-at
 
-  skins-at : headerOf d .skins .skins .at ≡ length (idsOf d) + rowWords 0 (take 7 d)
+  pub skins-at : headerOf d .skins .skins .at ≡ length (idsOf d) + rowWords 0 (take 7 d)
   unfolding headerOf
   skins-at = table-next 6 (headerOf d .meshes .«in_betweens» .at) betweens-at
 
-  skeletons-at : headerOf d .skins .skeletons .at ≡ length (idsOf d) + rowWords 0 (take 8 d)
+  pub skeletons-at : headerOf d .skins .skeletons .at ≡ length (idsOf d) + rowWords 0 (take 8 d)
   unfolding headerOf
   skeletons-at = table-next 7 (headerOf d .skins .skins .at) skins-at
 

@@ -11,3 +11,7 @@ pub mod Said
 pub mod Filling
 pub mod FormsFill
 pub mod Fits
+pub mod Clear
+pub mod Parts
+pub mod SoundRecords
+pub mod Drawn

@@ -28,7 +28,7 @@ use Rattle.scene_round.specs.Read.{lentOf}
 use Rattle.scene_round.proofs.Held.{Held, held-part, held-within, held-before, held-map}
 use Rattle.scene_round.proofs.Bits.{floats-kept}
 use Rattle.scene_round.proofs.Placed.{Table, formOf, countsAt, items-held, record-held}
-use Rattle.scene_round.proofs.Fields.{readAt, startAt, FormIn, there-inside}
+use Rattle.scene_round.proofs.Fields.{readAt, roomOf, startAt, FormIn, there-inside}
 
 -- every table is shorter than 2^32
 pub record Short (s : Slices) : Type 0 where
@@ -76,6 +76,11 @@ floats-read {xs} {l} {at} more h s o =
     ∙ ap bitsOf (held-part (held-before more (held-map (ofBits binary32) h)))
     ∙ floats-kept xs s o
 
+floats-inside : {xs l : List ℕ} {at : ℕ} (more : List Float) → Held xs l at
+    → at + length xs ≤ length (realsOf l ++ more)
+floats-inside {xs} more h =
+    omega (arith, held-within (held-before more (held-map (ofBits binary32) h)), length-map xs (ofBits binary32))
+
 pool-short : (d : Document) → Short (tablesOf d) → (p : Pool) → Table p → length (itemsFrom p 0 d) < 0x1_0000_0000
 unfolding tablesOf
 pool-short d s pool.Number t = absurd t
@@ -97,6 +102,16 @@ module _ (d : Document) (behind : Slices) where
   pool-read pool.Floats t h s o = floats-read (behind .floats) h s o
   pool-read pool.NodeWeights t h s o = floats-read (behind .nodeWeights) h s o
   pool-read pool.MeshWeights t h s o = floats-read (behind .meshWeights) h s o
+
+  pool-inside : (p : Pool) {xs : List ℕ} {at : ℕ} → Table p → Held xs (itemsFrom p 0 d) at
+      → at + length xs ≤ roomOf p (lentOf d behind)
+  unfolding tablesOf
+  pool-inside pool.Number t h = absurd t
+  pool-inside pool.Bits t h = absurd t
+  pool-inside pool.Ids t h = held-within (held-before (behind .words) (held-before (rowsFrom 0 d noCounts) h))
+  pool-inside pool.Floats t h = floats-inside (behind .floats) h
+  pool-inside pool.NodeWeights t h = floats-inside (behind .nodeWeights) h
+  pool-inside pool.MeshWeights t h = floats-inside (behind .meshWeights) h
 
   -- the record of form i of kind k, in a table that starts where those of that kind do
   pub row-read : (k i : ℕ) (t : Part) → k < length d → i < countOf d k
@@ -133,5 +148,6 @@ module _ (d : Document) (behind : Slices) (fits : FitsKinds kinds d) (shaped : T
         fits = form .0;
         shaped = form .1;
         short = λ j xs t e. omega (arith, held-within (held j xs t e), pool-short d short (poolOf k j) t);
+        inside = λ j xs t e. pool-inside d behind (poolOf k j) t (held j xs t e);
         items = λ j xs t e s o. pool-read d behind (poolOf k j) t (held j xs t e) s o;
       }
