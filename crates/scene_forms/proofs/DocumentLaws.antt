@@ -45,6 +45,7 @@ pub record DocumentGoing (text : List ℕ) (o : Place) (a b : Slices) (zeros cou
       ≡ putDocument text 0 (parsed kinds text) (wholeAt a [] o)
   pub counted : sets counts k (map length (kindsLeft text k (q .next) .made))
       ≡ sets zeros 0 (map length (parsed kinds text))
+  pub rest : kindsLeft text k (q .next) .rest ≡ documentIn (length text) kinds text .rest
   pub within : Within text (q .next) (q .counts)
   pub upto : k ≤ 9
   pub nine : length counts ≡ 9
@@ -58,6 +59,7 @@ document-start text rows met {o} {zeros} {reaches} a e z r =
     subst (λ (x : Place). DocumentGoing text x a a zeros zeros reaches x 0) (sym e) (record {
       read = refl;
       counted = refl;
+      rest = refl;
       within = record {
         inside = omega arith;
         ids = omega arith;
@@ -113,6 +115,7 @@ module _ {text : List ℕ} {o : Place} {a b : Slices} {zeros counts reaches : Li
             (λ i. sets ((e ∙ ap (set counts k) (s .counted)) i) (add-one k i) (map length later))
             ∙ ap (λ (v : Got Document). sets counts k (map length (v .made))) (sym cons)
             ∙ g .counted;
+        rest = ap (λ (v : Got Document). v .rest) (sym cons) ∙ g .rest;
         within = s .within;
         upto = omega arith;
         nine = ap length e ∙ length-set counts k (r .count) ∙ g .nine;
@@ -140,5 +143,6 @@ module _ {text : List ℕ} {o : Place} {a b : Slices} {zeros counts reaches : Li
             ap (λ (v : Got Document). sets counts k (map length (v .made))) (sym end)
             ∙ g .counted
             ∙ nine-stored zeros lens z many;
+        rest = ap (λ (v : Got Document). v .rest) (sym end) ∙ g .rest;
         within = g .within;
       }

@@ -10,7 +10,7 @@ use Rattle.borrowed.specs.Slices.{Words, Floats, Change}
 use Rattle.grammar.specs.Digits.{itemsText}
 use Rattle.grammar.specs.Forms.{Form}
 use Rattle.grammar.specs.Shape.{sorted, sized}
-use Rattle.grammar.specs.Parsed.{Got, fieldIn, fieldsIn, formsIn, parsed}
+use Rattle.grammar.specs.Parsed.{Got, fieldIn, fieldsIn, formsIn, documentIn, parsed}
 use Rattle.brackets.specs.declared.Met.{Met}
 use Rattle.brackets.specs.declared.Listed.{Listed}
 use Rattle.brackets.specs.Met.{metAt, meet, meets, judge}
@@ -203,4 +203,5 @@ pub record DocumentRead (text : List ℕ) (rows : ℕ) (met : Met) (l : Change S
   pub read : wholeAt (l .to) (r .reaches) (r .place)
       ≡ putDocument text 0 (parsed kinds text) (wholeAt (l .from) [] (startAt rows met))
   pub counted : r .counts ≡ map length (parsed kinds text)
+  pub rest : drop (r .place .next) text ≡ documentIn (length text) kinds text .rest
   pub within : Within text (r .place .next) (r .place .counts)
