@@ -1,6 +1,6 @@
 -- The room that is told is enough for a bake, and no slice may be shorter. Assumes nothing.
 use mathlib.Core.Path.{_≡_, refl, sym, ap, _∙_, subst}
-use mathlib.Core.Bool.{Bool, true, false}
+use mathlib.Core.Bool.{Bool, true, false, true≢false}
 use mathlib.Core.Option.{Option, none, some}
 use Prim.Native.Nat.{ℕ, zero, suc, _≤_}
 use native.Mathlib.Omega.{arith}
@@ -23,17 +23,18 @@ use Rattle.bake_room.proofs.Judging.{scratch-long, scratch-short, outpu
 
 -- ---- the first test that applies
 
--- none that finds the room short, where it is not
-neither-short : (a b c d e f g : Bool) → NeitherShort (firstTest a b c d false e f g false)
+-- none that finds the room short, where the scratch room is not, and no output is unless there is no mesh
+neither-short : (a b c d e f g k : Bool) → (e ≡ false → k ≡ false) → NeitherShort (firstTest a b c d false e f g k)
 unfolding firstTest
-neither-short true b c d e f g = (λ h. omega (arith, h), λ h. omega (arith, h))
-neither-short false true c d e f g = (λ h. omega (arith, h), λ h. omega (arith, h))
-neither-short false false true d e f g = (λ h. omega (arith, h), λ h. omega (arith, h))
-neither-short false false false true e f g = (λ h. omega (arith, h), λ h. omega (arith, h))
-neither-short false false false false true f g = (λ h. omega (arith, h), λ h. omega (arith, h))
-neither-short false false false false false true g = (λ h. omega (arith, h), λ h. omega (arith, h))
-neither-short false false false false false false true = (λ h. omega (arith, h), λ h. omega (arith, h))
-neither-short false false false false false false false = (λ h. omega (arith, h), λ h. omega (arith, h))
+neither-short true b c d e f g k o = (λ h. omega (arith, h), λ h. omega (arith, h))
+neither-short false true c d e f g k o = (λ h. omega (arith, h), λ h. omega (arith, h))
+neither-short false false true d e f g k o = (λ h. omega (arith, h), λ h. omega (arith, h))
+neither-short false false false true e f g k o = (λ h. omega (arith, h), λ h. omega (arith, h))
+neither-short false false false false true f g k o = (λ h. omega (arith, h), λ h. omega (arith, h))
+neither-short false false false false false true g k o = (λ h. omega (arith, h), λ h. omega (arith, h))
+neither-short false false false false false false true k o = (λ h. omega (arith, h), λ h. omega (arith, h))
+neither-short false false false false false false false true o = absurd (true≢false (o refl))
+neither-short false false false false false false false false o = (λ h. omega (arith, h), λ h. omega (arith, h))
 
 -- where none applies with one room, another room alone decides
 by-room : (a b c d e f g h k : Bool) → firstTest a b c d e f g h k ≡ 0
@@ -81,16 +82,22 @@ module _ (l : Lent) (i : ℕ) where
       go (suc g) m h = absurd (omega (arith, h))
 
   module _ (time : Float) where
-    -- with as much room as told, no slice is found too short
+    -- with scratch room that is not short, and outputs that are not where there is a mesh, no slice is found too short
+    pub not-short : (r : bake.Room) → scratchTest l i time r ≡ false
+        → (isSome (meshAt (sceneOf l) i) ≡ true → outputTest l i time r ≡ false) → NeitherShort (numberWith l i time r)
+    not-short r scratch output =
+        subst (λ (k : ℕ). NeitherShort k)
+        (sym (number-is l i time r ∙ ap (λ (b : Bool). numberBy l i time b (outputTest l i time r)) scratch))
+        (neither-short _ _ _ _ _ _ _ _ (λ h. output (not-false _ h)))
+
+    -- nor with as much room as told
     pub enough : (r : bake.Room) → roomFor l i .number ≡ 0 → Enough (roomFor l i) r
         → NeitherShort (numberWith l i time r)
     enough r n e =
         let t = told-there n in
         let room = subst (λ (x : Room). Enough x r) (room-is l i (t .0) (t .1)) e in
-        let scratch = scratch-long l i time r (room .scratch) in
-        let output = output-long l i time r (t .0) (t .1) (room .output) in
-        subst (λ (k : ℕ). NeitherShort k) (sym (number-is l i time r ∙ (λ j. numberBy l i time (scratch j) (output j))))
-        (neither-short _ _ _ _ _ _ _)
+        not-short r (scratch-long l i time r (room .scratch))
+        (λ m. output-long l i time r (t .0) m (room .output))
 
     -- ---- a bake that is accepted with some room
     module _ (r′ : bake.Room) (z : numberWith l i time r′ ≡ 0) where

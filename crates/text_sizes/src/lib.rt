@@ -1,0 +1,1 @@
+// How long the tables of a text can be: laws alone.
