@@ -1,4 +1,4 @@
-# make                    proves and builds the C library, target/lib/libmesh3d.a
+# make                    proves and builds the C library, target/lib/libmesh3d.a, and the programs on texts, target/bin
 # make oar                bakes the oar of examples/ and writes target/oar.svg
 # make install PREFIX=..  puts header, archive and pkg-config file under PREFIX, /usr/local if it is not given
 # make test               builds and runs the C and C++ callers of harness/c/tests over it

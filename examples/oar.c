@@ -1,6 +1,7 @@
 /* An oar whose blade is shaped from a planed blank while the oar is feathered, as one sheet of A4 to print: the blade
    at five times, and three of its sections at full size to cut templates from. The SVG goes to stdout; every line of
-   the oar is drawn from vertices that were baked. */
+   the oar is drawn from vertices that were baked. `oar text` writes the scene as bracketed text instead (docs/TEXT.md),
+   which asks for the blade at time 0.5. */
 #include "blade.h"
 #include "sheet.h"
 
@@ -131,16 +132,36 @@ static void bake(const mesh3d_scene *scene, uint32_t node, float time, baked *ou
     free(floats);
 }
 
-int main(void) {
+/* ---- what is written ---- */
+
+static void write_sheet(const mesh3d_scene *scene) {
     static baked loom[TIMES], blade[TIMES];
-    const mesh3d_scene *scene = make_scene();
     for (size_t i = 0; i < TIMES; i++) {
         bake(scene, LOOM_NODE, 0.25f * (float)i, &loom[i]);
         bake(scene, BLADE_NODE, 0.25f * (float)i, &blade[i]);
     }
     put_sheet(loom, blade);
+}
+
+static void write_text(const mesh3d_scene *scene) {
+    mesh3d_text_written need = mesh3d_scene_text_length(scene, BLADE_NODE, 0.5f);
+    if (need.number != MESH3D_ACCEPTED) refuse(scene, need.number);
+    char *text = room_for(need.length, 1);
+    mesh3d_scene_write(scene, BLADE_NODE, 0.5f, text, need.length);
+    fwrite(text, 1, need.length, stdout);
+    free(text);
+}
+
+int main(int argc, char **argv) {
+    bool as_text = argc == 2 && strcmp(argv[1], "text") == 0;
+    if (argc > 1 && !as_text) {
+        fprintf(stderr, "usage: oar [text]\n");
+        return 2;
+    }
+    if (as_text) write_text(make_scene());
+    else write_sheet(make_scene());
     if (fflush(stdout) != 0 || ferror(stdout)) {
-        fprintf(stderr, "oar: the sheet could not be written\n");
+        fprintf(stderr, "oar: the output could not be written\n");
         return 1;
     }
     return 0;

@@ -5,8 +5,8 @@
    The functions of the archive take no null pointer, not even with length 0; the inline functions at the end, on
    structs, take null where the length is 0. Slices that are written must not overlap others.
    Every input is answered. Whatever the slices hold, each call returns, with a result or a refusal number (the enum
-   below) of which the lowest that applies is answered; each number fixes what every slice holds then. docs/TABLES.md
-   says what a scene and a track are, and the usual causes of each number.
+   below) of which the lowest that applies is answered, 13 before all others; each number fixes what every slice holds
+   then. docs/TABLES.md says what a scene and a track are, and the usual causes of each number.
    Memory and threads. No function allocates, keeps anything between calls, or reads or writes a global. Calls in
    several threads do not disturb each other where what one writes is lent to no other. A call needs at most 64 kB of
    stack.
@@ -41,7 +41,8 @@ enum mesh3d_refusal {
     MESH3D_NO_PALETTE = 9,
     MESH3D_SHORT_SHEET = 10,
     MESH3D_NO_COMMON_ROOT = 11,
-    MESH3D_NO_SUCH_FRAME = 12
+    MESH3D_NO_SUCH_FRAME = 12,
+    MESH3D_BAD_FORM = 13
 };
 
 /* A refusal number, or 0, and how many floats were written. */
@@ -275,6 +276,66 @@ mesh3d_told mesh3d_effective_weights_floats(const uint32_t *words, size_t words_
                                             const float *mesh_weights, size_t mesh_weights_len, mesh3d_header header,
                                             uint32_t node, float *out, size_t out_len);
 
+/* ---- scenes as text (docs/TEXT.md) ---- */
+
+/* A refusal number, or 0; the header of the scene that was read, and the node and the time that its text asks for.
+   Refused, all but the number are 0. */
+typedef struct {
+    uint32_t number;
+    mesh3d_header header;
+    uint32_t node;
+    float time;
+} mesh3d_reading;
+
+/* Reads a scene from a text into its four tables, each at the start of its slice, which is as lent past it. Answers
+   13, 1, 10 or 0, judged in this order; where it is not 0, nothing is changed. The tables of a scene that was read
+   may still draw 2. */
+mesh3d_reading mesh3d_read_scene(const uint8_t *text, size_t text_len, uint32_t *words, size_t words_len, float *floats,
+                                 size_t floats_len, float *node_weights, size_t node_weights_len, float *mesh_weights,
+                                 size_t mesh_weights_len);
+
+/* A refusal number, or 0, and how long the tables of a scene are. */
+typedef struct {
+    uint32_t number;
+    size_t words;
+    size_t floats;
+    size_t node_weights;
+    size_t mesh_weights;
+} mesh3d_needed;
+
+/* How long the slices must be that a text is read into: with that much, and less than 2^32 each, mesh3d_read_scene
+   does not answer 10, and less in any of them draws it. Answers 13, 1 or 0; refused, all lengths are 0. */
+mesh3d_needed mesh3d_text_room(const uint8_t *text, size_t text_len);
+
+/* A refusal number, or 0, and the place of a byte in a text. */
+typedef struct {
+    uint32_t number;
+    size_t at;
+} mesh3d_break;
+
+/* Where a text that has no reading breaks: at the first byte that departs from the grammar; where none does, at the
+   closing bracket of the first field or form of the wrong shape, or at the end of the text. Answers 13 or 0; where it
+   is 0, so is the place. */
+mesh3d_break mesh3d_find_break(const uint8_t *text, size_t text_len);
+
+/* A refusal number, or 0, and how many bytes a text has. */
+typedef struct {
+    uint32_t number;
+    size_t length;
+} mesh3d_text_written;
+
+/* Writes a scene as text, with the node and the time that are asked for, to the start of `out`, which is as lent past
+   it; no 0 is put behind it. Answers 1, 2, 10 or 0; where it is not 0, `out` is as lent, and the length 0. */
+mesh3d_text_written mesh3d_write_scene(const uint32_t *words, size_t words_len, const float *floats, size_t floats_len,
+                                       const float *node_weights, size_t node_weights_len, const float *mesh_weights,
+                                       size_t mesh_weights_len, mesh3d_header header, uint32_t node, float time,
+                                       uint8_t *out, size_t out_len);
+
+/* How long that text is; 2^63 where it is longer than any slice. Answers 1, 2 or 0; refused, the length is 0. */
+mesh3d_text_written mesh3d_text_length(const uint32_t *words, size_t words_len, const float *floats, size_t floats_len,
+                                       const float *node_weights, size_t node_weights_len, const float *mesh_weights,
+                                       size_t mesh_weights_len, mesh3d_header header, uint32_t node, float time);
+
 /* ---- tracks ---- */
 
 /* Any other kind or interpolation draws 2. */
@@ -386,6 +447,18 @@ typedef struct {
     size_t mesh_weights_len;
     mesh3d_header header;
 } mesh3d_scene;
+
+/* The tables that a text is read into. */
+typedef struct {
+    uint32_t *words;
+    size_t words_len;
+    float *floats;
+    size_t floats_len;
+    float *node_weights;
+    size_t node_weights_len;
+    float *mesh_weights;
+    size_t mesh_weights_len;
+} mesh3d_tables;
 
 /* A lent scene in bytes. */
 typedef struct {
@@ -533,6 +606,46 @@ static inline mesh3d_baked mesh3d_scene_bake(const mesh3d_scene *scene, uint32_t
     return mesh3d_bake_floats(MESH3D_LENT(scene), node, time, MESH3D_POSE(MESH3D_OUT, scratch),
                               MESH3D_OUT(uint32_t, scratch, walk), MESH3D_OUT(uint32_t, scratch, places),
                               MESH3D_OUT(float, scratch, worlds), MESH3D_VERTICES(float, output));
+}
+
+/* A text is bytes of any type. */
+static inline mesh3d_break mesh3d_text_break(const void *text, size_t text_len) {
+    return mesh3d_find_break((const uint8_t *)mesh3d_in(text), text_len);
+}
+
+/* How long the tables must be that a text is read into. */
+static inline mesh3d_needed mesh3d_tables_needed(const void *text, size_t text_len) {
+    return mesh3d_text_room((const uint8_t *)mesh3d_in(text), text_len);
+}
+
+static inline mesh3d_reading mesh3d_tables_read(const mesh3d_tables *tables, const void *text, size_t text_len) {
+    return mesh3d_read_scene((const uint8_t *)mesh3d_in(text), text_len, MESH3D_OUT(uint32_t, tables, words),
+                             MESH3D_OUT(float, tables, floats), MESH3D_OUT(float, tables, node_weights),
+                             MESH3D_OUT(float, tables, mesh_weights));
+}
+
+/* The scene that was read into tables, with the header of its reading. */
+static inline mesh3d_scene mesh3d_tables_scene(const mesh3d_tables *tables, mesh3d_header header) {
+    mesh3d_scene scene;
+    scene.words = tables->words;
+    scene.words_len = tables->words_len;
+    scene.floats = tables->floats;
+    scene.floats_len = tables->floats_len;
+    scene.node_weights = tables->node_weights;
+    scene.node_weights_len = tables->node_weights_len;
+    scene.mesh_weights = tables->mesh_weights;
+    scene.mesh_weights_len = tables->mesh_weights_len;
+    scene.header = header;
+    return scene;
+}
+
+static inline mesh3d_text_written mesh3d_scene_text_length(const mesh3d_scene *scene, uint32_t node, float time) {
+    return mesh3d_text_length(MESH3D_LENT(scene), node, time);
+}
+
+static inline mesh3d_text_written mesh3d_scene_write(const mesh3d_scene *scene, uint32_t node, float time, void *out,
+                                                     size_t out_len) {
+    return mesh3d_write_scene(MESH3D_LENT(scene), node, time, (uint8_t *)mesh3d_out(out), out_len);
 }
 
 /* Codes and matrices are left in `scratch`. */

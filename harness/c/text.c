@@ -21,6 +21,7 @@ const char *mesh3d_refusal_text(uint32_t number) {
         "short output",
         "no common root of the joints",
         "no such frame",
+        "bad form: the text has no reading",
     };
     return number < COUNT(texts) ? texts[number] : "no such refusal number";
 }

@@ -9,6 +9,7 @@
 //!
 //! * [`Builder`] takes a scene in plain structs and lays it out in tables, none of whose
 //!   places can be wrong; an [`OwnedScene`] bakes its nodes and allocates what that needs.
+//!   It can be read from a text and written as one, too.
 //! * [`Scene`], [`Track`] and [`Vertices`] are calls on slices that the caller has, and
 //!   allocate nothing.
 //! * [`raw`] has the C functions as they are, with any numbers in their tables.
@@ -62,6 +63,7 @@ mod owned;
 mod parts;
 mod refusal;
 mod scene;
+mod text;
 mod track;
 mod vertices;
 
@@ -74,4 +76,5 @@ pub use parts::{Base, Channel, InBetween, Mesh, Node, Primitive, Skeleton, Skin,
 pub use raw::{Header, Mat4, Part, Quat, Scene, Scratch, Vec3, Vertices};
 pub use refusal::Refusal;
 pub use scene::{Place, Room, Written};
+pub use text::{find_break, Request};
 pub use track::{are_keys_in_line, Interpolation, Kind, Track, Value};

@@ -7,7 +7,8 @@ use crate::{
     scene::{Place, Room},
 };
 
-/// A scene laid out in tables, as [`Builder::build`](crate::Builder::build) makes it.
+/// A scene laid out in tables, as [`Builder::build`](crate::Builder::build) makes it of parts
+/// and [`OwnedScene::from_text`] of a text.
 #[derive(Clone, Debug, Default)]
 pub struct OwnedScene {
     pub(crate) words: Vec<u32>,

@@ -3,7 +3,8 @@
 use crate::raw;
 use std::{error::Error, fmt};
 
-/// Why a call was refused: of all that applies, the one with the lowest number.
+/// Why a call was refused: of all that applies, the one with the lowest number; `BadForm`
+/// comes before all others.
 #[derive(Clone, Copy, Debug, PartialEq, Eq, Hash)]
 #[repr(u32)]
 pub enum Refusal {
@@ -30,14 +31,16 @@ pub enum Refusal {
     /// The joints of a skin have no common root.
     NoCommonRoot,
     /// The track has no such frame.
-    NoSuchFrame = 12,
+    NoSuchFrame,
+    /// A text has no reading.
+    BadForm = 13,
 }
 
 use Refusal::*;
 
 impl Refusal {
     /// In the order of their numbers, from 1 on.
-    pub const ALL: [Refusal; 12] = [
+    pub const ALL: [Refusal; 13] = [
         OutOfTable,
         OverLimit,
         NoTime,
@@ -50,9 +53,10 @@ impl Refusal {
         ShortOutput,
         NoCommonRoot,
         NoSuchFrame,
+        BadForm,
     ];
 
-    /// From 1 to 12, as the C functions answer it.
+    /// From 1 to 13, as the C functions answer it.
     pub fn number(self) -> u32 {
         self as u32
     }
@@ -69,7 +73,7 @@ impl Refusal {
 ///
 /// # Panics
 ///
-/// Where the number is above 12, which no function of this version answers.
+/// Where the number is above 13, which no function of this version answers.
 pub(crate) fn accepted(number: u32) -> Result<(), Refusal> {
     if number == 0 {
         return Ok(());

@@ -194,7 +194,7 @@ fn child_entries_are_summed() {
 }
 
 /// How the text of each refusal and each reason begins.
-const REFUSALS: [&str; 12] = [
+const REFUSALS: [&str; 13] = [
     "out of table",
     "over a limit",
     "no time",
@@ -207,6 +207,7 @@ const REFUSALS: [&str; 12] = [
     "short output",
     "no common root",
     "no such frame",
+    "bad form",
 ];
 const REASONS: [&str; 4] = [
     "it is aimed past the last node",
@@ -223,7 +224,7 @@ fn refusals_and_reasons_are_told() {
         assert!(refusal.to_string().starts_with(text), "{refusal}");
     }
     assert_eq!(Refusal::from_number(0), None);
-    assert_eq!(Refusal::from_number(13), None);
+    assert_eq!(Refusal::from_number(14), None);
     for ((number, reason), text) in (1..).zip(Reason::ALL).zip(REASONS) {
         assert_eq!(reason as u32, number);
         assert!(reason.to_string().starts_with(text), "{reason}");

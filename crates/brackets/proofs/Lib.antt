@@ -1,2 +1,4 @@
+pub mod EightLaws
 pub mod MeetingLaws
 pub mod ReadingLaws
+pub mod ShortLaws

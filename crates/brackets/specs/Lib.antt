@@ -1,2 +1,4 @@
 pub mod Met
+pub mod Packed
 pub mod Read
+pub mod Shorts

@@ -2,7 +2,7 @@ use crate::Met;
 ghost use mathlib.Core.Path.{_≡_};
 ghost use mathlib.Core.List.{_∷_};
 ghost use Rattle.grammar.specs.Digits.{digitsOf, sortFor};
-ghost use Rattle.brackets.specs.Met.{meet, meets, judge};
+ghost use Rattle.brackets.specs.Met.{meet, meets, judge, Stands};
 
 // One expected byte more.
 pub fn meet(text: &[u8], m: Met, b: u8) -> Met
@@ -39,9 +39,28 @@ pub fn meet_bytes(text: &[u8], m: Met, bytes: &[u8]) -> Met
 pub fn meet_item(text: &[u8], m: Met, float: bool, n: u32) -> Met
     ensures { λ r. ⌜ r ≡ meets (now (text .entry)) (32 ∷ digitsOf (sortFor float) n) m ⌝ }
 {
-    let mut item = [0u8; 16];
-    let end = spelling::put_item(&mut item, 0, float, n);
-    meet_bytes(text, m, &item[..end])
+    if m.ok {
+        let mut item = [0u8; 16];
+        let end = spelling::put_item(&mut item, 0, float, n);
+        return meet_bytes(text, m, &item[..end]);
+    }
+    Met {
+        at: m.at,
+        ok: false,
+    }
+}
+
+// The same for an item that stands between two places.
+pub(crate) fn meet_there(text: &[u8], m: Met, at: usize, next: usize, float: bool, n: u32) -> Met
+    requires { ⌜ Stands (now text) at next (32 ∷ digitsOf (sortFor float) n) ⌝ }
+    ensures { λ r. ⌜ r ≡ meets (now (text .entry)) (32 ∷ digitsOf (sortFor float) n) m ⌝ }
+{
+    if m.ok {
+        if m.at == at {
+            return Met { at: next, ok: true };
+        }
+    }
+    meet_item(text, m, float, n)
 }
 
 // The first place of which something does not hold.

@@ -90,6 +90,51 @@ fn take_item(text: &[u8], at: usize, float: bool, met: Met) -> Item
     }
 }
 
+// A float behind a space: eight digits at once where they are such, else as any item.
+fn take_float(text: &[u8], at: usize, met: Met) -> Item
+    requires { ⌜ getD (now text) at 0 ≡ 32 ⌝ }
+    ensures { λ r. ⌜ ItemRead floats (now (text .entry)) at met r ⌝ }
+{
+    let from = at + 1;
+    let next = at + 9;
+    if next < text.len() {
+        if text[next] < 48 {
+            let e = crate::eights::eight_digits(&text[from..next]);
+            if e.written {
+                return Item {
+                    value: e.value,
+                    next,
+                    met: crate::meeting::meet_there(text, met, at, next, true, e.value),
+                };
+            }
+        }
+    }
+    take_item(text, at, true, met)
+}
+
+// A number behind a space: at once where it is short, else as any item.
+fn take_number(text: &[u8], at: usize, met: Met) -> Item
+    requires { ⌜ getD (now text) at 0 ≡ 32 ⌝ }
+    ensures { λ r. ⌜ ItemRead numbers (now (text .entry)) at met r ⌝ }
+{
+    let i = at + 1;
+    let j = i + 1;
+    let k = j + 1;
+    let l = k + 1;
+    if l < text.len() {
+        let s = crate::shorts::short(text[i], text[j], text[k], text[l]);
+        if 0 < s.count {
+            let next = i + s.count as usize;
+            return Item {
+                value: s.value,
+                next,
+                met: crate::meeting::meet_there(text, met, at, next, false, s.value),
+            };
+        }
+    }
+    take_item(text, at, false, met)
+}
+
 // Stores a number where there is room, and answers the place behind it.
 fn store_number(cells: &mut [u32], k: usize, x: u32) -> usize
     ensures { λ r. ⌜ Stores (λ y. y) cells k x r ⌝ }
@@ -170,11 +215,14 @@ pub fn read_numbers(text: &[u8], at: usize, cells: &mut [u32], n: usize, met: Me
         if byte_at(text, i) != 32 {
             return answer(t, behind(text, i), m);
         }
-        let x = take_item(text, i, false, m);
+        let x = take_number(text, i, m);
         k = store_number(cells, k, x.value);
         t = one_more(t, false, x.value);
         i = x.next;
-        m = x.met;
+        m = Met {
+            at: x.met.at,
+            ok: x.met.ok,
+        };
         left -= 1;
     }
     answer(t, i, m)
@@ -198,11 +246,14 @@ pub fn read_floats(text: &[u8], at: usize, cells: &mut [f32], n: usize, met: Met
         if byte_at(text, i) != 32 {
             return answer(t, behind(text, i), m);
         }
-        let x = take_item(text, i, true, m);
+        let x = take_float(text, i, m);
         k = store_float(cells, k, x.value);
         t = one_more(t, true, x.value);
         i = x.next;
-        m = x.met;
+        m = Met {
+            at: x.met.at,
+            ok: x.met.ok,
+        };
         left -= 1;
     }
     answer(t, i, m)

@@ -3,3 +3,4 @@ pub mod Forms
 pub mod Shape
 pub mod Parsed
 pub mod Common
+pub mod Breaks

@@ -1,42 +1,19 @@
 -- A line of items that is put together in an array, and vertices put line by line. Assumes nothing.
 use mathlib.Core.Path.{_≡_, refl, sym, ap, _∙_}
-use mathlib.Core.Bool.{Bool, true, false}
 use mathlib.Core.List.{List, [], _∷_, _++_}
-use Prim.Native.Nat.{ℕ, zero, suc, _+_, _-_, _*_, _/_, _≤_, _<_}
+use Prim.Native.Nat.{ℕ, suc, _+_, _-_, _*_, _≤_, _<_}
 use native.Mathlib.Numerals.{add-one}
 use native.Mathlib.Omega.{arith}
-use lib.Dec.{ltb}
 use lib.Ieee.{Float, binary32, toBits}
-use lib.ListN.{length, getD, take, drop, replicate, length-append, length-drop, length-replicate, drop-of-length-le}
-use lib.Seq.{sets, length-sets, sets-eq, take-at, drop-cons}
-use Rattle.model.specs.Lists.{pick}
-use Rattle.grammar.specs.Digits.{numbers, floats, places, digitsOf}
-use Rattle.spelling.specs.Pushed.{Out, outAt, farthest, pushes}
-use Rattle.spelling.proofs.DigitLaws.{last-length}
-use Rattle.spelling.proofs.Pushing.{put-sets, put-append, pushes-append, going-length}
+use lib.ListN.{length, getD, drop, replicate, length-append, length-drop, drop-of-length-le}
+use lib.Seq.{drop-cons}
+use Rattle.grammar.specs.Digits.{numbers, floats, digitsOf}
+use Rattle.spelling.specs.Pushed.{Out, outAt, pushes}
+use Rattle.spelling.proofs.DigitLaws.{last-length, digits-few}
+use Rattle.spelling.proofs.Pushing.{Filled, filled, put-append, pushes-append, going-length}
 use Rattle.printing.specs.Lines.{bitsText, vertexText, verticesText, numberText}
 
 -- ---- a line
-
--- bytes put into zeros that have room for them stand at their start
-pub record Filled (bs left : List ℕ) (end : ℕ) : Type 0 where
-  pub long : end ≡ length bs
-  pub inside : end ≤ length left
-  pub taken : take end left ≡ bs
-
-pub filled : (n : ℕ) (bs left : List ℕ) (end : ℕ) → 0 < length bs → length bs ≤ n → n ≤ 0xff
-    → outAt left end ≡ pushes bs (outAt (replicate n 0) 0) → Filled bs left end
-filled n bs left end some room few e =
-    let zeros : List ℕ = replicate n 0 in
-    let p = e ∙ sym (put-sets zeros 0 bs (length bs) (omega (arith, length-replicate {A = ℕ} n 0)) refl some refl refl) in
-    let l : left ≡ sets zeros 0 bs = ap (λ (o : Out). o .bytes) p in
-    let whole : end ≡ length bs = omega (arith, ap (λ (o : Out). o .at) p) in
-    let fits : 0 + length bs ≤ length zeros = omega (arith, length-replicate {A = ℕ} n 0) in
-    record {
-      long = whole;
-      inside = omega (arith, ap length l, length-sets zeros 0 bs, length-replicate {A = ℕ} n 0);
-      taken = rw (l, sets-eq bs zeros 0 fits) (take-at bs _ end (sym whole));
-    }
 
 -- what is still to put of a list makes up what was to put
 abbrev pub Still : List ℕ → Out → Out → ℕ → Type 0
@@ -58,27 +35,11 @@ pub put-length : (bs : List ℕ) (lent : Out) {left : Out} → left ≡ pushes b
 unfolding pushes
 put-length bs lent {left} e = going-length [] bs left lent e
 
--- ---- a number, and a vertex
-
-places-few : (k n : ℕ) → places k n ≤ suc k
-unfolding places
-places-few zero n = omega arith
-places-few (suc k) n = few (places-few k (n / 10)) (ltb n 10)
-  where
-    few : places k (n / 10) ≤ suc k → (t : Bool) → pick t 1 (suc (places k (n / 10))) ≤ suc (suc k)
-    few h true = omega arith
-    few h false = omega arith
+-- ---- a vertex
 
 -- the items of a line: a space before each
 abbrev itemOf : List ℕ → List ℕ
 itemOf ds = 32 ∷ ds
-
-pub number-filled : (n : ℕ) (left : List ℕ) (end : ℕ)
-    → outAt left end ≡ pushes (itemOf (digitsOf numbers n)) (outAt (replicate 16 0) 0)
-    → Filled (itemOf (digitsOf numbers n)) left end
-number-filled n left end e =
-    filled 16 (itemOf (digitsOf numbers n)) left end (omega arith)
-    (omega (arith, last-length 10 (places 9 n) n, places-few 9 n)) (omega arith) e
 
 abbrev pub threeItems : Float → Float → Float → List ℕ
 threeItems x y z = itemOf (bitsText x) ++ itemOf (bitsText y) ++ itemOf (bitsText z)
@@ -158,7 +119,7 @@ vertices-done ps i lent left e h =
 
 pub number-few : (n : ℕ) → length (numberText n) ≤ 11
 number-few n =
-    omega (arith, length-append (digitsOf numbers n) (10 ∷ []), last-length 10 (places 9 n) n, places-few 9 n)
+    omega (arith, length-append (digitsOf numbers n) (10 ∷ []), digits-few numbers n)
 
 -- nine a float
 pub vertices-few : (ps : List Float) → length (verticesText ps) ≤ 9 * length ps

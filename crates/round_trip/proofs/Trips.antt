@@ -10,7 +10,7 @@ use denote.Ref.{now}
 use lib.Dec.{T, eqb, ltb}
 use lib.Ieee.{Float, binary32, fits}
 use lib.ListN.{length, take, drop}
-use lib.Seq.{sets, sets-eq, take-at}
+use lib.Seq.{sets}
 use Rattle.borrowed.specs.Slices.{Words, Change}
 use Rattle.model.specs.Lists.{pick, orElse, isSome}
 use Rattle.model.specs.Refusals.{number, badForm, outOfTable, shortOutput, firstOf}
@@ -24,6 +24,7 @@ use Rattle.grammar.specs.Parsed.{readingOf}
 use Rattle.scene_schema.specs.Schema.{kinds}
 use Rattle.scene_forms.specs.Read.{Slices}
 use Rattle.scene_forms.specs.Said.{tablesOf, headerOf, nodeOf, timeOf, leaves}
+use Rattle.scene_forms.proofs.StoreLaws.{stored, front}
 use Rattle.scene_spelling.specs.Written.{documentOf}
 use Rattle.scene_round.specs.Read.{lentOf}
 use Rattle.scene_round.proofs.Filling.{Lent32}
@@ -39,16 +40,6 @@ use Rattle.scene_text.specs.Reading.{acceptedAs, refusedBy}
 use Rattle.scene_writing.specs.declared.Written.{Written}
 use Rattle.scene_writing.specs.Writing.{sceneText, writeNumber, SceneWritten}
 use Rattle.round_trip.specs.Round.{Trip, readBack, Same}
-
--- ---- lists
-
--- a list stored at the start of another that has room for it
-stored : {A : Type 0} (l xs : List A) → length xs ≤ length l → sets l 0 xs ≡ xs ++ drop (length xs) l
-stored l xs h = let z : 0 + length xs ≡ length xs = omega arith in
-    sets-eq xs l 0 (omega arith) ∙ ap (λ (k : ℕ). xs ++ drop k l) z
-
-front : {A : Type 0} (l xs : List A) → length xs ≤ length l → take (length xs) (sets l 0 xs) ≡ xs
-front l xs h = ap (take (length xs)) (stored l xs h) ∙ take-at xs (drop (length xs) l) (length xs) refl
 
 -- ---- room
 
@@ -105,7 +96,7 @@ module _ (l : Lent) (node : ℕ) (time : Float) {out : Words} {w : Written}
   written =
       (λ i. take (length-is i) ((wrote .output
       ∙ ap (λ (b : Bool). pick b (sets (now (out .entry)) 0 text) (now (out .entry))) (eq-eqb _ 0 number-is)) i))
-      ∙ front (now (out .entry)) text long
+      ∙ front (now (out .entry)) text (length text) refl long
 
 -- ---- what the reader reads
 

@@ -6,3 +6,4 @@ pub mod TextLaws
 pub mod ShapeLaws
 pub mod StoreLaws
 pub mod TableLaws
+pub mod BreakLaws

@@ -1,7 +1,7 @@
 -- The shape of a document that is put is judged to hold exactly where every form has its shape, which is all that the
 -- schema asks but for the kinds of just one form. Assumes nothing.
 use mathlib.Core.Path.{_≡_, refl, sym, ap, _∙_}
-use mathlib.Core.Bool.{Bool, true, false, _&&_, _||_, not, and-true, and-false, and-assoc}
+use mathlib.Core.Bool.{Bool, true, false, _&&_, _||_, not, and-true, and-assoc}
 use mathlib.Core.List.{List, [], _∷_}
 use mathlib.Core.Option.{none, some}
 use Prim.Native.Nat.{ℕ, zero, suc, _+_, _<_}
@@ -13,7 +13,8 @@ use lib.ListN.{length, drop}
 use lib.Seq.{getD-drop, drop-drop}
 use Rattle.model.specs.Lists.{pick, every}
 use Rattle.grammar.specs.Forms.{Slot, Kind, Field, Form, Document, FitsSlots, FitsKind, FitsKinds}
-use Rattle.grammar.specs.Shape.{fieldHolds, fieldsHold, presentIn, groupsHold, formHolds, kindHolds, holds}
+use Rattle.grammar.specs.Shape.{fieldHolds, fieldsHold, presentIn, groupsHold, formHolds}
+use Rattle.grammar.proofs.BreakLaws.{allHold}
 use Rattle.brackets.specs.declared.Met.{Met}
 use Rattle.brackets.specs.Met.{metAt, judge}
 use Rattle.scene_schema.specs.Schema.{kinds, kindAt, slotAt}
@@ -26,33 +27,6 @@ use Rattle.scene_forms.specs.Filled.{afresh, Whole, putDocument}
 use Rattle.scene_forms.specs.Laid.{fieldAt, marksOf}
 use Rattle.scene_forms.proofs.MarkLaws.{thereIn, mark-told, marks-laid}
 use Rattle.scene_forms.proofs.TextLaws.{by-kinds, by-slots, form-few}
-
--- ---- what holds of a document
-
--- every form has its shape
-unfoldable pub allHold : List Kind → Document → Bool
-allHold (k ∷ ks) (fs ∷ d) = every (formHolds k) fs && allHold ks d
-allHold (k ∷ ks) [] = true
-allHold [] d = true
-
--- a kind of just one form has one
-unfoldable pub singles : List Kind → Document → Bool
-singles (k ∷ ks) (fs ∷ d) = (not (k .single) || eqb (length fs) 1) && singles ks d
-singles (k ∷ ks) [] = true
-singles [] d = true
-
-and-swap : (a b c e : Bool) → (a && b && (c && e)) ≡ (a && c && (b && e))
-and-swap true true c e = refl
-and-swap true false c e = sym (and-false c)
-and-swap false b c e = refl
-
-pub holds-split : (ks : List Kind) (d : Document) → holds ks d ≡ (allHold ks d && singles ks d)
-unfolding holds allHold singles
-holds-split (k ∷ ks) (fs ∷ d) =
-    ap (λ (b : Bool). kindHolds k fs && b) (holds-split ks d)
-    ∙ and-swap (every (formHolds k) fs) _ (allHold ks d) (singles ks d)
-holds-split (k ∷ ks) [] = refl
-holds-split [] d = refl
 
 -- ---- the groups of a form, told by its marks
 

@@ -1,11 +1,11 @@
--- Runs of stores: one behind the other, and two that lie apart. Assumes nothing.
-use mathlib.Core.Path.{_≡_, refl, ap, _∙_}
+-- Runs of stores: one behind the other, two that lie apart, and one at the start. Assumes nothing.
+use mathlib.Core.Path.{_≡_, refl, sym, ap, _∙_}
 use mathlib.Core.Logic.{_≢_}
 use mathlib.Core.List.{List, [], _∷_, _++_}
 use Prim.Native.Nat.{ℕ, suc, _+_, _≤_, _<_}
 use native.Mathlib.Omega.{arith}
-use lib.ListN.{length, set}
-use lib.Seq.{sets, set-comm}
+use lib.ListN.{length, set, take, drop}
+use lib.Seq.{sets, set-comm, sets-eq, take-at}
 
 module _ {A : Type 0} where
   pub sets-append : (l : List A) (i : ℕ) (xs ys : List A) → sets l i (xs ++ ys) ≡ sets (sets l i xs) (i + length xs) ys
@@ -29,3 +29,12 @@ module _ {A : Type 0} where
   sets-apart l i (x ∷ xs) j ys h =
       ap (λ (s : List A). sets s (suc i) xs) (set-apart l i x j ys (omega arith))
       ∙ sets-apart (set l i x) (suc i) xs j ys (omega arith)
+
+  -- a list stored at the start of another that has room for it
+  pub stored : (l xs : List A) → length xs ≤ length l → sets l 0 xs ≡ xs ++ drop (length xs) l
+  stored l xs h =
+      let z : 0 + length xs ≡ length xs = omega arith in
+      sets-eq xs l 0 (omega arith) ∙ ap (λ (k : ℕ). xs ++ drop k l) z
+
+  pub front : (l xs : List A) (n : ℕ) → n ≡ length xs → length xs ≤ length l → take n (sets l 0 xs) ≡ xs
+  front l xs n e h = ap (take n) (stored l xs h) ∙ take-at xs (drop (length xs) l) n (sym e)

@@ -28,12 +28,12 @@ use Rattle.scene_forms.proofs.MarkLaws.{mark-told, marks-laid}
 -- ---- by kinds, and by slots
 
 -- x and xs are a list from i on
-record Rest {A : Type 0} (l : List A) (d : A) (i : ℕ) (x : A) (xs : List A) : Type 0 where
-  inside : i < length l
-  first : x ≡ getD l i d
-  others : xs ≡ drop (suc i) l
+pub record Rest {A : Type 0} (l : List A) (d : A) (i : ℕ) (x : A) (xs : List A) : Type 0 where
+  pub inside : i < length l
+  pub first : x ≡ getD l i d
+  pub others : xs ≡ drop (suc i) l
 
-rest-of : {A : Type 0} (l : List A) (d : A) (i : ℕ) (x : A) (xs : List A) → x ∷ xs ≡ drop i l → Rest l d i x xs
+pub rest-of : {A : Type 0} (l : List A) (d : A) (i : ℕ) (x : A) (xs : List A) → x ∷ xs ≡ drop i l → Rest l d i x xs
 rest-of {A} l d i x xs e =
     let h : i < length l = omega (arith, ap length e, length-drop i l) in
     let c = e ∙ drop-cons l i d h in
@@ -116,7 +116,7 @@ roots-start (some xs) = refl
 module _ (text : List ℕ) where
   -- ---- what the text is compared with
 
-  field-met : (k j : ℕ) (x : Field) (s : Filled)
+  pub field-met : (k j : ℕ) (x : Field) (s : Filled)
       → putField text k j x s .met ≡ meets text (fieldText (slotAt k j) x) (s .met)
   unfolding meets
   field-met k j none s = refl

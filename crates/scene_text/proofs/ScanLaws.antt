@@ -13,12 +13,14 @@ use Rattle.borrowed.specs.Slices.{Change}
 use Rattle.model.specs.Lists.{pick, every}
 use Rattle.grammar.specs.Forms.{Kind, Document, documentText, FitsKinds}
 use Rattle.grammar.specs.Common.{common}
-use Rattle.grammar.specs.Parsed.{parsed, isText}
+use Rattle.grammar.specs.Parsed.{parsed, same, isText}
 use Rattle.grammar.proofs.Found.{made-fits}
 use Rattle.grammar.proofs.Words.{both}
 use Rattle.grammar.proofs.Prefix.{same-common}
+use Rattle.grammar.proofs.BreakLaws.{allHold, singles, holds-split}
 use Rattle.brackets.specs.declared.Met.{Met}
 use Rattle.brackets.specs.Met.{metAt, meets}
+use Rattle.brackets.proofs.MeetingLaws.{departed}
 use Rattle.scene_schema.specs.declared.Pool.the-variants as pool
 use Rattle.scene_schema.specs.Schema.{kinds}
 use Rattle.scene_forms.specs.declared.Found.{Found}
@@ -27,16 +29,11 @@ use Rattle.scene_forms.specs.Laid.{itemsFrom, reachOf, reachesFrom}
 use Rattle.scene_forms.specs.Said.{countOf, formsOf, leaves}
 use Rattle.scene_forms.specs.Read.{Slices, DocumentRead, wholeAt, startAt}
 use Rattle.scene_forms.proofs.TextLaws.{document-met, document-reaches}
-use Rattle.scene_forms.proofs.ShapeLaws.{allHold, singles, holds-split, document-shape}
+use Rattle.scene_forms.proofs.ShapeLaws.{document-shape}
 use Rattle.scene_forms.proofs.TableLaws.{document-laid}
 use Rattle.scene_text.specs.Scanned.{Scanned, isReading, leavesTable}
 
 -- ---- a text compared from a place on
-
-departed : (text bs : List ℕ) (n : ℕ) → meets text bs (metAt n false) ≡ metAt n false
-unfolding meets
-departed text [] n = refl
-departed text (b ∷ bs) n = departed text bs n
 
 -- the first byte departs
 stopped : (text bs : List ℕ) (n c m : ℕ) → c ≡ 0 → meets text bs (metAt n false) ≡ metAt (n + c) (eqb c (suc m))
@@ -185,19 +182,31 @@ module _ {text : List ℕ} {rows : ℕ} {met : Met} {l : Change Slices} {f : Fou
       = λ k. ap (λ (c : List ℕ). getD c k 0) told-reaches ∙ reach-at 0 d k in
       λ i. ltb (n 4 i) (m 3 i) || (ltb (n 5 i) (m 4 i) || ltb (n 6 i) (m 5 i))
 
--- a text has a reading where the pass that compares it says so
-pub reading-told : {text : List ℕ} {f : Found} → Scanned text f
-    → isReading (length text) f ≡ isText kinds text (parsed kinds text)
-reading-told {text} {f} s =
-    let d = parsed kinds text in
-    let bs = documentText kinds d in
-    let c = common bs text in
-    let m : f .place .met ≡ metAt (0 + c) (eqb c (length bs)) = told-met (s .read) ∙ meets-common text bs 0 in
-    let z : 0 + c ≡ c = omega arith in
-    let one : eqb (getD (f .counts) 0 0) 1 ≡ singles kinds d
-    = ap (λ (l : List ℕ). eqb (getD l 0 0) 1) (s .read .counted) ∙ ap (λ (n : ℕ). eqb n 1) (count-at d 0)
-    ∙ sym (one-scene d (fits (s .read))) in
-    (λ i. m i .ok && (eqb (m i .at) (length text) && (told-shape (s .read) i && one i)))
-    ∙ ap (λ (x : ℕ). eqb c (length bs) && (eqb x (length text) && (allHold kinds d && singles kinds d))) z
-    ∙ sym (and-assoc (eqb c (length bs)) (eqb c (length text)) (allHold kinds d && singles kinds d))
-    ∙ (λ i. (both-long c (length bs) (length text) ∙ sym (same-common bs text)) i && sym (holds-split kinds d) i)
+module _ {text : List ℕ} {f : Found} (s : Scanned text f) where
+  abbrev made : List ℕ
+  made = documentText kinds (parsed kinds text)
+
+  -- how far the text is that of what was made of it
+  pub told-common : f .place .met ≡ metAt (common made text) (eqb (common made text) (length made))
+  told-common =
+      let z : 0 + common made text ≡ common made text = omega arith in
+      told-met (s .read) ∙ meets-common text made 0
+      ∙ ap (λ (n : ℕ). metAt n (eqb (common made text) (length made))) z
+
+  -- and whether it is
+  pub told-same : (f .place .met .ok && eqb (f .place .met .at) (length text)) ≡ same made text
+  told-same =
+      (λ i. told-common i .ok && eqb (told-common i .at) (length text))
+      ∙ both-long (common made text) (length made) (length text)
+      ∙ sym (same-common made text)
+
+  -- a text has a reading where the pass that compares it says so
+  pub reading-told : isReading (length text) f ≡ isText kinds text (parsed kinds text)
+  reading-told =
+      let d = parsed kinds text in
+      let one : eqb (getD (f .counts) 0 0) 1 ≡ singles kinds d
+      = ap (λ (l : List ℕ). eqb (getD l 0 0) 1) (s .read .counted) ∙ ap (λ (n : ℕ). eqb n 1) (count-at d 0)
+      ∙ sym (one-scene d (fits (s .read))) in
+      sym (and-assoc (f .place .met .ok) (eqb (f .place .met .at) (length text))
+      (f .place .shape .ok && eqb (getD (f .counts) 0 0) 1))
+      ∙ (λ i. told-same i && ((λ j. told-shape (s .read) j && one j) ∙ sym (holds-split kinds d)) i)

@@ -1,2 +1,3 @@
 pub mod Scanned
 pub mod Reading
+pub mod Breaks

@@ -23,7 +23,7 @@ ghost use Rattle.scene_text.specs.Scanned.{numberFor, acceptedFrom};
 ghost use Rattle.scene_text.specs.Reading.{SceneRead, refusedBy, neededAs, roomOf};
 
 // All that one pass over a text tells; nothing is kept.
-fn scan(text: &[u8]) -> Found
+pub(crate) fn scan(text: &[u8]) -> Found
     ensures { λ r. ⌜ Scanned (now (text .entry)) r ⌝ }
 {
     let mut words = [0u32; 1];
@@ -43,7 +43,7 @@ fn scan(text: &[u8]) -> Found
 }
 
 // Whether a text of so many bytes is that of what was made of it, and that has its shape.
-fn is_reading(len: usize, f: Found) -> bool
+pub(crate) fn is_reading(len: usize, f: Found) -> bool
     ensures { λ r. ⌜ r ≡ isReading len f ⌝ }
 {
     let met = f.place.met;

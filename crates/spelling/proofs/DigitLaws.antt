@@ -10,7 +10,7 @@ use lib.Dec.{ltb}
 use lib.ListN.{length, set, length-append}
 use lib.Seq.{sets, set-comm}
 use Rattle.model.specs.Lists.{pick}
-use Rattle.grammar.specs.Digits.{hexDigit, lastDigits, places}
+use Rattle.grammar.specs.Digits.{Sort, numbers, floats, hexDigit, lastDigits, places, digitsOf}
 
 pub last-length : (base k n : ℕ) → length (lastDigits base k n) ≡ k
 unfolding lastDigits
@@ -71,3 +71,16 @@ places-some (suc k) n = some (ltb n 10)
     some : (t : Bool) → 0 < pick t 1 (suc (places k (n / 10)))
     some true = omega arith
     some false = omega arith
+
+places-few : (k n : ℕ) → places k n ≤ suc k
+unfolding places
+places-few zero n = omega arith
+places-few (suc k) n = few (places-few k (n / 10)) (ltb n 10)
+  where
+    few : places k (n / 10) ≤ suc k → (t : Bool) → pick t 1 (suc (places k (n / 10))) ≤ suc (suc k)
+    few h true = omega arith
+    few h false = omega arith
+
+pub digits-few : (s : Sort) (n : ℕ) → length (digitsOf s n) ≤ 10
+digits-few numbers n = omega (arith, last-length 10 (places 9 n) n, places-few 9 n)
+digits-few floats n = omega (arith, last-length 16 8 n)

@@ -7,9 +7,11 @@ use native.Mathlib.Numerals.{add-one}
 use native.Mathlib.Omega.{arith}
 use borrow.Author.Tests.{ltb-true, ltb-false}
 use lib.Dec.{ltb}
-use lib.ListN.{length, getD, set, drop, length-set, drop-of-length-le}
-use lib.Seq.{sets, set-out, drop-cons}
+use lib.ListN.{length, getD, set, take, drop, replicate, length-set, length-replicate, drop-of-length-le}
+use lib.Seq.{sets, set-out, drop-cons, length-sets, sets-eq, take-at}
+use Rattle.grammar.specs.Digits.{Sort, digitsOf}
 use Rattle.spelling.specs.Pushed.{Out, outAt, farthest, push, pushes}
+use Rattle.spelling.proofs.DigitLaws.{digits-few}
 
 -- ---- one list after the other
 pub pushes-append : (xs bs : List ℕ) (o : Out) → pushes (xs ++ bs) o ≡ pushes bs (pushes xs o)
@@ -26,12 +28,8 @@ unfolding pushes
 length-pushes [] o = refl
 length-pushes (b ∷ bs) o = length-pushes bs (push b o) ∙ length-set (o .bytes) (o .at) b
 
-pub place-upto : (b : ℕ) (o : Out) {next : Out} → next ≡ pushes (b ∷ []) o → next .at ≤ farthest
-unfolding pushes
-place-upto b o e = omega (arith, ap (λ (x : Out). x .at) e)
-
 -- ---- a run at once
-sets-out : (l : List ℕ) (i : ℕ) (bs : List ℕ) → length l ≤ i → sets l i bs ≡ l
+pub sets-out : (l : List ℕ) (i : ℕ) (bs : List ℕ) → length l ≤ i → sets l i bs ≡ l
 sets-out l i [] h = refl
 sets-out l i (b ∷ bs) h = rw (set-out l i b) (sets-out l (suc i) bs (omega arith))
 
@@ -67,6 +65,33 @@ put-sets lent at [] n l e h f g = absurd (omega arith)
 put-sets lent at (b ∷ bs) n l e h f g =
     let m : min (at + n) farthest ≡ min (at + suc (length bs)) farthest = omega arith in
     (λ j. outAt (f j) ((g ∙ m) j)) ∙ sym (push-sets b bs lent at l)
+
+-- bytes put into zeros that have room for them stand at their start
+pub record Filled (bs left : List ℕ) (end : ℕ) : Type 0 where
+  pub long : end ≡ length bs
+  pub inside : end ≤ length left
+  pub taken : take end left ≡ bs
+
+pub filled : (n : ℕ) (bs left : List ℕ) (end : ℕ) → 0 < length bs → length bs ≤ n → n ≤ 0xff
+    → outAt left end ≡ pushes bs (outAt (replicate n 0) 0) → Filled bs left end
+filled n bs left end some room few e =
+    let zeros : List ℕ = replicate n 0 in
+    let all = length-replicate {A = ℕ} n 0 in
+    let p = e ∙ sym (put-sets zeros 0 bs (length bs) (omega arith) refl some refl refl) in
+    let l : left ≡ sets zeros 0 bs = ap (λ (o : Out). o .bytes) p in
+    let whole : end ≡ length bs = omega (arith, ap (λ (o : Out). o .at) p) in
+    let fits : 0 + length bs ≤ length zeros = omega arith in
+    record {
+      long = whole;
+      inside = omega (arith, ap length l, length-sets zeros 0 bs);
+      taken = rw (l, sets-eq bs zeros 0 fits) (take-at bs _ end (sym whole));
+    }
+
+-- an item behind a space
+pub item-put : (s : Sort) (n : ℕ) (left : List ℕ) (end : ℕ)
+    → outAt left end ≡ pushes (32 ∷ digitsOf s n) (outAt (replicate 16 0) 0) → Filled (32 ∷ digitsOf s n) left end
+item-put s n left end e =
+    filled 16 (32 ∷ digitsOf s n) left end (omega arith) (omega (arith, digits-few s n)) (omega arith) e
 
 -- ---- a list part by part
 pub record Parts {A : Type 0} (text : List A → List ℕ) (part : A → List ℕ) : Type 0 where

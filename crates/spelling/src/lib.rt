@@ -4,7 +4,7 @@ ghost use mathlib.Core.Path.{_≡_};
 ghost use mathlib.Core.List.{[], _∷_, map};
 ghost use Prim.Native.Nat.{_+_, _≤_, _<_, min};
 ghost use lib.Ieee.{binary32, toBits};
-ghost use lib.ListN.{set};
+ghost use lib.ListN.{length, set};
 ghost use lib.Seq.{sets};
 ghost use Rattle.grammar.specs.Digits.{numbers, floats, hexDigit, lastDigits, places, digitsOf, sortFor};
 ghost use Rattle.grammar.specs.Digits.{itemsText};
@@ -94,20 +94,54 @@ fn digits(out: &mut [u8], at: usize, base: u32, count: usize, n: u32)
     }
 }
 
+// The same where there is room for all of them.
+fn digits_inside(out: &mut [u8], at: usize, base: u32, count: usize, n: u32)
+    requires { ⌜ (at + count ≤ length (now out)) × (count ≤ 10) × (0 < base) × (base ≤ 16) ⌝ }
+    ensures { λ _. ⌜ now (out .exit) ≡ sets (now (out .entry)) at (lastDigits base count n) ⌝ }
+{
+    let mut k = count;
+    let mut m = n;
+    while 0 < k {
+        k -= 1;
+        out[at + k] = letter(m % base);
+        m = m / base;
+    }
+}
+
+// A space and the last `count` digits of n, as far as there is room.
+fn spaced_digits(out: &mut [u8], at: usize, base: u32, count: usize, n: u32)
+    requires { ⌜ (count ≤ 10) × (0 < base) × (base ≤ 16) ⌝ }
+    ensures { λ _. ⌜ now (out .exit) ≡ sets (now (out .entry)) at (32 ∷ lastDigits base count n) ⌝ }
+{
+    if out.len() <= at {
+        return;
+    }
+    out[at] = 32;
+    if count < out.len() - at {
+        digits_inside(out, at + 1, base, count, n);
+    } else {
+        digits(out, at + 1, base, count, n);
+    }
+}
+
+// Puts a space and the last `count` digits of n.
+fn put_digits(out: &mut [u8], at: usize, base: u32, count: usize, n: u32) -> usize
+    requires { ⌜ (count ≤ 10) × (0 < base) × (base ≤ 16) ⌝ }
+    ensures { λ r. ⌜ Puts (32 ∷ lastDigits base count n) out at r ⌝ }
+{
+    let next = advanced(at, count + 1);
+    spaced_digits(out, at, base, count, n);
+    next
+}
+
 // Puts a space and an item: a number in decimal, or the eight digits of a float's bits.
 pub fn put_item(out: &mut [u8], at: usize, float: bool, n: u32) -> usize
     ensures { λ r. ⌜ Puts (32 ∷ digitsOf (sortFor float) n) out at r ⌝ }
 {
-    let k = put(out, at, 32);
     if float {
-        let next = advanced(k, 8);
-        digits(out, k, 16, 8, n);
-        return next;
+        return put_digits(out, at, 16, 8, n);
     }
-    let count = places(n);
-    let next = advanced(k, count);
-    digits(out, k, 10, count, n);
-    next
+    put_digits(out, at, 10, places(n), n)
 }
 
 // Puts a list of numbers, each behind a space.

@@ -1,5 +1,6 @@
-// Reads texts, each up to a line with '%', and prints for each the number that the reader answers; where that is 0,
-// also the node and the bits of the time, and whether the scene is written as the same text.
+// Reads texts, each up to a line with '%', and prints for each the number that the reader answers; where the text has
+// no reading also the place at which it breaks; where the number is 0 also the node and the bits of the time, and
+// whether the scene is written as the same text.
 use brackets::Met;
 use libc::STDIN_FILENO;
 use libc::STDOUT_FILENO;
@@ -51,6 +52,11 @@ fn answer(text: &[u8]) {
         &mut mesh_weights,
     );
     print_number(r.number);
+    let found = scene_text::find_break(text);
+    if found.number != 0 {
+        io::write_all(STDOUT_FILENO, b" at ");
+        io::print_decimal(STDOUT_FILENO, found.at as u64);
+    }
     if r.number == 0 {
         io::write_all(STDOUT_FILENO, b" node ");
         print_number(r.node);

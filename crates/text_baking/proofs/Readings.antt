@@ -10,7 +10,7 @@ use borrow.Author.Tests.{eq-eqb, le-ltb}
 use lib.Dec.{T, eqb, ltb}
 use lib.Ieee.{Float}
 use lib.ListN.{length, take, drop, replicate, length-replicate}
-use lib.Seq.{sets, sets-eq, length-sets, take-at}
+use lib.Seq.{sets, length-sets}
 use Rattle.borrowed.specs.Slices.{Change}
 use Rattle.float.specs.F32.{zero32}
 use Rattle.model.specs.Lists.{pick, isSome, orElse}
@@ -24,6 +24,7 @@ use Rattle.spelling.specs.Pushed.{Out, farthest, pushes}
 use Rattle.scene_schema.specs.Schema.{kinds}
 use Rattle.scene_forms.specs.Read.{Slices}
 use Rattle.scene_forms.specs.Said.{tablesOf, headerOf, nodeOf, timeOf, leaves}
+use Rattle.scene_forms.proofs.StoreLaws.{front}
 use Rattle.scene_text.specs.declared.Reading.{Reading}
 use Rattle.scene_text.specs.declared.Needed.{Needed}
 use Rattle.scene_text.specs.Scanned.{roomIn}
@@ -98,11 +99,6 @@ unfolding firstOf
 no-number a b c e f =
     λ j. pick (not (e .0 j)) (number badForm) (pick (e .1 j) (number outOfTable) (pick (f j) (number shortOutput) 0))
 
--- a list stored at the start of another that has room for it
-front : {A : Type 0} (l xs : List A) (n : ℕ) → n ≡ length xs → length xs ≤ length l → take n (sets l 0 xs) ≡ xs
-front l xs n e h =
-    ap (take n) (sets-eq xs l 0 (omega arith)) ∙ take-at xs (drop (0 + length xs) l) n (sym e)
-
 -- ---- what was read
 
 -- a table stands at the start of its slice
@@ -110,9 +106,9 @@ pub record Stored {A : Type 0} (table : List A) (slice : List A) (n : ℕ) : Typ
   pub inside : n ≤ length slice
   pub taken : take n slice ≡ table
 
-stored : {A : Type 0} (lent slice table : List A) (n room : ℕ) → slice ≡ sets lent 0 table → n ≡ length table
+stands : {A : Type 0} (lent slice table : List A) (n room : ℕ) → slice ≡ sets lent 0 table → n ≡ length table
     → length lent ≡ room → length table ≤ room → Stored table slice n
-stored lent slice table n room e l r h = record {
+stands lent slice table n room e l r h = record {
   inside = omega (arith, ap length e, length-sets lent 0 table);
   taken = ap (take n) e ∙ front lent table n l (omega arith);
 }
@@ -143,28 +139,28 @@ module _ {text : List ℕ} (h : Readable text) {n : Needed} (told : n ≡ roomOf
   pub words-in : Stored (tablesOf d .words) (c .to .words) (n .words)
   words-in =
       let f = few text h .words in
-      stored (c .from .words) (c .to .words) (tablesOf d .words) (n .words) textLimit
+      stands (c .from .words) (c .to .words) (tablesOf d .words) (n .words) textLimit
       (ap (λ (s : Slices). s .words) filled) (omega (arith, ap (λ (x : Needed). x .words) needs, h .short))
       (ap (λ (x : Lengths). x .words) lent) (omega (arith, h .short))
 
   pub floats-in : Stored (tablesOf d .floats) (c .to .floats) (n .floats)
   floats-in =
       let f = few text h .floats in
-      stored (c .from .floats) (c .to .floats) (tablesOf d .floats) (n .floats) floatRoom
+      stands (c .from .floats) (c .to .floats) (tablesOf d .floats) (n .floats) floatRoom
       (ap (λ (s : Slices). s .floats) filled) (ap (λ (x : Needed). x .floats) needs)
       (ap (λ (x : Lengths). x .floats) lent) (omega (arith, h .short))
 
   pub node-weights-in : Stored (tablesOf d .nodeWeights) (c .to .nodeWeights) (n .«node_weights»)
   node-weights-in =
       let f = few text h .nodeWeights in
-      stored (c .from .nodeWeights) (c .to .nodeWeights) (tablesOf d .nodeWeights) (n .«node_weights») floatRoom
+      stands (c .from .nodeWeights) (c .to .nodeWeights) (tablesOf d .nodeWeights) (n .«node_weights») floatRoom
       (ap (λ (s : Slices). s .nodeWeights) filled) (ap (λ (x : Needed). x .«node_weights») needs)
       (ap (λ (x : Lengths). x .nodeWeights) lent) (omega (arith, h .short))
 
   pub mesh-weights-in : Stored (tablesOf d .meshWeights) (c .to .meshWeights) (n .«mesh_weights»)
   mesh-weights-in =
       let f = few text h .meshWeights in
-      stored (c .from .meshWeights) (c .to .meshWeights) (tablesOf d .meshWeights) (n .«mesh_weights») floatRoom
+      stands (c .from .meshWeights) (c .to .meshWeights) (tablesOf d .meshWeights) (n .«mesh_weights») floatRoom
       (ap (λ (s : Slices). s .meshWeights) filled) (ap (λ (x : Needed). x .«mesh_weights») needs)
       (ap (λ (x : Lengths). x .meshWeights) lent) (omega (arith, h .short))
 

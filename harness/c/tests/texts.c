@@ -75,7 +75,8 @@ int main(void) {
     if (mesh3d_fault_text(odd, NULL, 0) != strlen("no such fault")) failures++;
     expect_text(mesh3d_refusal_text(0), "accepted");
     expect_text(mesh3d_refusal_text(MESH3D_NO_SUCH_FRAME), "no such frame");
-    expect_text(mesh3d_refusal_text(MESH3D_NO_SUCH_FRAME + 1), "no such refusal number");
+    expect_text(mesh3d_refusal_text(MESH3D_BAD_FORM), "bad form: the text has no reading");
+    expect_text(mesh3d_refusal_text(MESH3D_BAD_FORM + 1), "no such refusal number");
     expect_text(mesh3d_reason_text(MESH3D_NO_LENGTH), "its rotation has no length to divide by at this time");
     expect_text(mesh3d_reason_text(UINT32_MAX), "no such reason");
     printf("texts: %zu differ\n", failures);

@@ -13,6 +13,9 @@ typedef struct {
     float float_room[409], value[4];
     uint8_t bytes[16], byte_weights[9], byte_places[21], byte_worlds[270];
     uint8_t byte_positions[50], byte_normals[54], byte_tangents[70];
+    uint32_t table_words[399];
+    float table_floats[403], table_node_weights[5], table_mesh_weights[6];
+    uint8_t text[5000];
 } written;
 
 static built_scene built;
@@ -63,6 +66,11 @@ static mesh3d_byte_vertices byte_vertices_of(written *w) {
 static mesh3d_decoding decoding_of(written *w) {
     mesh3d_decoding d = {ALL(w->word_room), ALL(w->float_room)};
     return d;
+}
+static mesh3d_tables tables_of(written *w) {
+    mesh3d_tables t = {ALL(w->table_words), ALL(w->table_floats), ALL(w->table_node_weights),
+                       ALL(w->table_mesh_weights)};
+    return t;
 }
 static mesh3d_byte_scene byte_scene(void) {
     mesh3d_byte_scene s = {BYTES};
@@ -189,6 +197,41 @@ static void call_vertices(void) {
     alike("morphed vertices");
 }
 
+/* The scene written as text, read back, and written once more from what was read. */
+static void call_texts(void) {
+    const uint32_t asked = 123456;
+    mesh3d_tables tables = tables_of(&two);
+    mesh3d_text_written a, b;
+    mesh3d_needed n, m;
+    mesh3d_reading r, s;
+    mesh3d_scene read;
+    start();
+    a = mesh3d_text_length(SCENE, asked, 0.75f);
+    b = mesh3d_scene_text_length(&built.lent, asked, 0.75f);
+    expect(a.number == 0 && a.number == b.number && a.length == b.length, "length of a text");
+    a = mesh3d_write_scene(SCENE, asked, 0.75f, ALL(one.text));
+    expect(a.number == 0 && a.length == b.length, "length of what is written");
+    b = mesh3d_scene_write(&built.lent, asked, 0.75f, ALL(two.text));
+    expect(a.number == b.number && a.length == b.length, "writing");
+    n = mesh3d_text_room(one.text, a.length);
+    m = mesh3d_tables_needed(two.text, b.length);
+    expect(n.number == 0 && n.number == m.number && n.words == m.words && n.floats == m.floats &&
+           n.node_weights == m.node_weights && n.mesh_weights == m.mesh_weights, "room of a text");
+    expect(n.node_weights == 2 && n.mesh_weights == 3, "room of the weights");
+    r = mesh3d_read_scene(one.text, a.length, ALL(one.table_words), ALL(one.table_floats),
+                          ALL(one.table_node_weights), ALL(one.table_mesh_weights));
+    s = mesh3d_tables_read(&tables, two.text, b.length);
+    expect(r.number == 0 && r.node == asked && r.time == 0.75f, "what a text asks for");
+    expect(r.number == s.number && r.node == s.node && r.time == s.time &&
+           memcmp(&r.header, &s.header, sizeof r.header) == 0, "reading");
+    alike("what the calls on texts leave");
+    read = mesh3d_tables_scene(&tables, s.header);
+    memset(two.text, 0, b.length);
+    b = mesh3d_scene_write(&read, s.node, s.time, ALL(two.text));
+    expect(a.number == b.number && a.length == b.length, "writing once more");
+    alike("what is written once more");
+}
+
 /* Nothing at all, with null pointers, and an empty scene. */
 static void call_empty(void) {
     mesh3d_scene scene;
@@ -207,6 +250,39 @@ static void call_empty(void) {
     mesh3d_transform_vertices(built.floats, &output);
 }
 
+/* Where a text breaks: nowhere, at its end, and where a byte in its middle is spoilt. */
+static void call_breaks(void) {
+    size_t length = mesh3d_scene_text_length(&built.lent, 0, 0).length, spoilt = length / 2;
+    mesh3d_break x, y;
+    start();
+    mesh3d_scene_write(&built.lent, 0, 0, ALL(one.text));
+    x = mesh3d_find_break(one.text, length);
+    y = mesh3d_text_break(one.text, length);
+    expect(x.number == 0 && x.at == 0 && y.number == 0 && y.at == 0, "no break");
+    x = mesh3d_find_break(one.text, length - 1);
+    y = mesh3d_text_break(one.text, length - 1);
+    expect(x.number == MESH3D_BAD_FORM && x.at == length - 1 && y.number == x.number && y.at == x.at, "break");
+    one.text[spoilt] = '?';
+    x = mesh3d_find_break(one.text, length);
+    y = mesh3d_text_break(one.text, length);
+    expect(x.at <= spoilt && spoilt < x.at + 9 && y.number == x.number && y.at == x.at, "the place of a break");
+    expect(mesh3d_text_break(NULL, 0).number == MESH3D_BAD_FORM, "the break of no text");
+}
+
+/* A text that is nothing, and that of an empty scene, with null pointers. */
+static void call_empty_texts(void) {
+    static const char text[] = "(scene (node 0) (time 00000000) (roots))\n";
+    mesh3d_tables tables;
+    mesh3d_scene scene;
+    memset(&tables, 0, sizeof tables);
+    expect(mesh3d_tables_needed(NULL, 0).number == MESH3D_BAD_FORM, "the room of no text");
+    expect(mesh3d_tables_read(&tables, NULL, 0).number == MESH3D_BAD_FORM, "the reading of no text");
+    expect(mesh3d_tables_read(&tables, text, sizeof text - 1).number == MESH3D_ACCEPTED, "the reading of nothing");
+    scene = mesh3d_tables_scene(&tables, mesh3d_tables_read(&tables, text, sizeof text - 1).header);
+    expect(mesh3d_scene_text_length(&scene, 0, 0).length == sizeof text - 1, "the length of nothing");
+    expect(mesh3d_scene_write(&scene, 0, 0, NULL, 0).number == MESH3D_SHORT_SHEET, "the writing of nothing");
+}
+
 static void *run(void *unused) {
     build(&built);
     tell();
@@ -217,7 +293,10 @@ static void *run(void *unused) {
     call_tracks(MESH3D_LINEAR);
     call_tracks(MESH3D_CUBIC_SPLINE);
     call_vertices();
+    call_texts();
+    call_breaks();
     call_empty();
+    call_empty_texts();
     return unused;
 }
 

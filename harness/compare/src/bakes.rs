@@ -3,7 +3,7 @@
 //! Rust starts from the port's rotations.
 
 pub mod case;
-mod largest;
+pub mod largest;
 mod on_bytes;
 mod rooms;
 mod sorts;

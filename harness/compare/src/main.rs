@@ -5,7 +5,8 @@
 //! cargo run --release -- gate     every comparison, or of one area with its name
 //!                                 behind; status 1 where an area differs
 //! cargo run --release -- roots    the root on all 2^32 patterns
-//! cargo run --release -- long     the bakes of 10^7 scenes
+//! cargo run --release -- long     the bakes of 10^7 scenes, and 10^5 texts with 10^6
+//!                                 damaged ones, or one of the two
 //! cargo run --release -- speed    CPU time of both sides, or of one area
 //! cargo run --release -- list     the Rust's answers, for crates/replay; with
 //!                                 the word samples those for crates/replay_samples,
@@ -35,6 +36,7 @@ mod sampling;
 mod skins;
 mod tables;
 mod tally;
+mod texts;
 mod vertices;
 
 use std::{
@@ -53,7 +55,7 @@ use std::{
 type Area = (&'static str, fn() -> bool);
 
 /// From the leaves up.
-const AREAS: [Area; 12] = [
+const AREAS: [Area; 13] = [
     ("headers", headers::compare),
     ("leaves", leaves::compare),
     ("matrices", matrices::compare),
@@ -65,11 +67,18 @@ const AREAS: [Area; 12] = [
     ("graph", graph::compare),
     ("morphs", morphs::compare),
     ("skins", skins::compare),
+    ("texts", texts::compare),
     ("bakes", bakes::compare),
 ];
 
+/// Of more cases than the gate has.
+const LONG: [Area; 2] = [
+    ("texts", texts::compare_long),
+    ("bakes", bakes::compare_long),
+];
+
 /// A name, and measurements that are printed.
-const SPEEDS: [(&str, fn()); 10] = [
+const SPEEDS: [(&str, fn()); 11] = [
     ("leaves", leaves::speed::measure),
     ("matrices", matrices::speed::measure),
     ("vertices", vertices::speed::measure),
@@ -80,6 +89,7 @@ const SPEEDS: [(&str, fn()); 10] = [
     ("morphs", morphs::speed::measure),
     ("skins", skins::speed::measure),
     ("bakes", bakes::speed::measure),
+    ("texts", texts::speed::measure),
 ];
 
 /// The stack of a thread that compares: the calls on bytes take up to 2 MB.
@@ -89,9 +99,10 @@ fn main() -> io::Result<ExitCode> {
     let arguments: Vec<String> = env::args().skip(1).collect();
     let arguments: Vec<&str> = arguments.iter().map(String::as_str).collect();
     match arguments[..] {
-        ["gate"] => return Ok(status(gate(""))),
-        ["gate", area] if is_name(area, &AREAS) => return Ok(status(gate(area))),
-        ["long"] => return Ok(status(bakes::compare_long())),
+        ["gate"] => return Ok(status(compare("", &AREAS))),
+        ["gate", area] if is_name(area, &AREAS) => return Ok(status(compare(area, &AREAS))),
+        ["long"] => return Ok(status(compare("", &LONG))),
+        ["long", area] if is_name(area, &LONG) => return Ok(status(compare(area, &LONG))),
         ["roots"] => return Ok(status(leaves::roots::compare_all())),
         ["speed"] => speed(""),
         ["speed", area] if is_name(area, &SPEEDS) => speed(area),
@@ -100,7 +111,10 @@ fn main() -> io::Result<ExitCode> {
         ["list", "published"] => list::published::write(&mut io::stdout().lock())?,
         ["list", "scenes"] => list::scenes::write(&mut io::stdout().lock())?,
         _ => {
-            eprintln!("usage: compare gate [AREA] | roots | long | speed [AREA] | list [samples | published | scenes]");
+            eprintln!(
+                "usage: compare gate [AREA] | roots | long [AREA] | speed [AREA] | \
+                 list [samples | published | scenes]"
+            );
             return Ok(ExitCode::from(2));
         }
     }
@@ -122,8 +136,8 @@ fn status(equal: bool) -> ExitCode {
 /// Of all areas, or of the one that is named: as many at a time as there are
 /// processors, the last of the list, which takes longest, first. None is begun
 /// after one that differs.
-fn gate(area: &str) -> bool {
-    let areas = AREAS
+fn compare(area: &str, areas: &[Area]) -> bool {
+    let areas = areas
         .iter()
         .rev()
         .filter(|(name, _)| area.is_empty() || *name == area);

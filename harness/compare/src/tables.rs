@@ -3,7 +3,7 @@
 
 pub mod build;
 mod decode;
-mod example;
+pub mod example;
 mod fields;
 pub mod generate;
 mod hostile;

@@ -4,13 +4,14 @@ use mathlib.Core.List.{_∷_}
 use borrow.Author.Needs.{needs}
 use lib.Seq.{length-take-le}
 use Rattle.grammar.specs.Digits.{numbers, digitsOf}
-use Rattle.printing.proofs.LineLaws.{Filled, number-filled, put-length}
+use Rattle.spelling.proofs.Pushing.{Filled, item-put}
+use Rattle.printing.proofs.LineLaws.{put-length}
 use Rattle.printing.proofs.put_number.Statement.{statement}
 use Rattle.printing.proofs.put_number.Tie as tie
 
 items : (c : tie.After-put-item)
     → Filled (32 ∷ digitsOf numbers (c .before .before .before .args .n)) (c .put-item .last .0) (c .put-item .result)
-items c = number-filled _ _ _ (c .put-item .ensures)
+items c = item-put numbers _ _ _ (c .put-item .ensures)
 
 array-share-prefix-items : tie.Need-array-share-prefix-items
 array-share-prefix-items c = items (c .before .before) .inside

@@ -2,7 +2,8 @@
 use mathlib.Core.Path.{sym}
 use borrow.Author.Needs.{needs}
 use lib.Seq.{length-take-le}
-use Rattle.printing.proofs.LineLaws.{Filled, threeItems, vertex-filled, put-length}
+use Rattle.spelling.proofs.Pushing.{Filled}
+use Rattle.printing.proofs.LineLaws.{threeItems, vertex-filled, put-length}
 use Rattle.printing.proofs.put_vertex.Statement.{statement}
 use Rattle.printing.proofs.put_vertex.Tie as tie
 

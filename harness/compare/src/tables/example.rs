@@ -15,7 +15,7 @@ pub fn compare() -> bool {
     is_read && drawn == [0; 2]
 }
 
-fn lent() -> Lent {
+pub fn lent() -> Lent {
     let node = |words: [u32; 6]| [&words[..], &[0; 10]].concat();
     let words = [
         node([0, 0, 44, 1, 0, 0]),

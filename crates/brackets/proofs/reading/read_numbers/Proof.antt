@@ -29,15 +29,17 @@ returns c =
     items-close (l .before .loop .inv) (l .loop-test .taken) (λ z. e .if1 .taken (e .before .byte-at .ensures ∙ z))
     (b .behind .ensures) (c .answer .ensures)
 
+take-number-requires : tie.Need-take-number-requires Inv-loop μ-loop
+take-number-requires c κs = sym (c .before .byte-at .ensures) ∙ c .if1 .left
+
 loop-again : tie.Need-loop-again Inv-loop μ-loop
 loop-again c =
-    let o = c .before in
-    let s = o .before .before .before in
+    let s = c .before .before .before in
     let t = s .before .before in
     let e = t .before in
     let l = e .before .before in
     items-more (l .before .loop .inv) (l .loop-test .taken) (sym (e .before .byte-at .ensures) ∙ e .if1 .left)
-    (t .take-item .ensures) (s .store-number .ensures) (o .one-more .ensures)
+    (t .take-number .ensures) (s .store-number .ensures) (c .one-more .ensures)
 
 same-length-2 : tie.Need-same-length-2 Inv-loop μ-loop
 same-length-2 c = items-length (c .before .before .loop .inv)
@@ -57,7 +59,7 @@ read-numbers-spec =
     (λ c κs. search needs)
     same-length
     returns
-    (λ c κs. search needs)
+    take-number-requires
     (λ c κs. search needs)
     (λ c κs. search needs)
     (λ c. search needs)
