@@ -2,16 +2,18 @@
 use mathlib.Core.Path.{_≡_, refl, sym, ap, _∙_}
 use mathlib.Core.Bool.{Bool, true, false}
 use mathlib.Core.List.{List, [], _∷_, _++_}
-use Prim.Native.Nat.{ℕ, suc, _+_, _≤_, _<_, min}
+use Prim.Native.Nat.{ℕ, suc, _+_, _*_, _≤_, _<_, min}
 use native.Mathlib.Numerals.{add-one}
 use native.Mathlib.Omega.{arith}
-use borrow.Author.Tests.{ltb-true, ltb-false}
-use lib.Dec.{ltb}
-use lib.ListN.{length, getD, set, take, drop, replicate, length-set, length-replicate, drop-of-length-le}
+use borrow.Author.Tests.{ne-eqb, ltb-true, ltb-false}
+use lib.Dec.{ltb, eqb}
+use lib.ListN.{length, getD, set, take, drop, replicate, length-set, length-append, length-replicate}
+use lib.ListN.{drop-of-length-le}
 use lib.Seq.{sets, set-out, drop-cons, length-sets, sets-eq, take-at}
-use Rattle.grammar.specs.Digits.{Sort, digitsOf}
-use Rattle.spelling.specs.Pushed.{Out, outAt, farthest, push, pushes}
-use Rattle.spelling.proofs.DigitLaws.{digits-few}
+use Rattle.model.specs.Lists.{pick}
+use Rattle.grammar.specs.Digits.{Sort, numbers, floats, places, digitsOf, itemsText}
+use Rattle.spelling.specs.Pushed.{Out, outAt, farthest, push, pushes, behind}
+use Rattle.spelling.proofs.DigitLaws.{last-length, digits-few}
 
 -- ---- one list after the other
 pub pushes-append : (xs bs : List ℕ) (o : Out) → pushes (xs ++ bs) o ≡ pushes bs (pushes xs o)
@@ -92,6 +94,69 @@ pub item-put : (s : Sort) (n : ℕ) (left : List ℕ) (end : ℕ)
     → outAt left end ≡ pushes (32 ∷ digitsOf s n) (outAt (replicate 16 0) 0) → Filled (32 ∷ digitsOf s n) left end
 item-put s n left end e =
     filled 16 (32 ∷ digitsOf s n) left end (omega arith) (omega (arith, digits-few s n)) (omega arith) e
+
+-- ---- no room
+
+-- nothing is put past the end
+pub put-past : (bs l : List ℕ) (at : ℕ) → length l ≤ at → length l ≤ farthest
+    → pushes bs (outAt l at) ≡ outAt l (behind at bs)
+unfolding pushes behind
+put-past [] l at h f = refl
+put-past (b ∷ bs) l at h f =
+    ap (λ (m : List ℕ). pushes bs (outAt m (min (suc at) farthest))) (set-out l at b h)
+    ∙ put-past bs l (min (suc at) farthest) (omega arith) f
+
+behind-append : (xs bs : List ℕ) (at : ℕ) → behind at (xs ++ bs) ≡ behind (behind at xs) bs
+unfolding behind
+behind-append [] bs at = refl
+behind-append (x ∷ xs) bs at = behind-append xs bs (min (suc at) farthest)
+
+behind-run : (b : ℕ) (bs : List ℕ) (at : ℕ) → behind at (b ∷ bs) ≡ min (at + suc (length bs)) farthest
+unfolding behind
+behind-run b [] at = omega arith
+behind-run b (c ∷ bs) at = behind-run c bs (min (suc at) farthest) ∙ omega arith
+
+-- numbers one after the other
+abbrev pub Behind : List ℕ → ℕ → ℕ → ℕ → Type 0
+Behind items at k i = behind k (itemsText numbers (drop i items)) ≡ behind at (itemsText numbers items)
+
+pub behind-more : (items : List ℕ) (at k i : ℕ) {count next : ℕ} → Behind items at k i → i < length items
+    → count ≡ places 9 (getD items i 0) → next ≡ min (k + (count + 1)) farthest → Behind items at next (i + 1)
+unfolding itemsText
+behind-more items at k i {next = next} e h p q =
+    let x = getD items i 0 in
+    let rest = itemsText numbers (drop (suc i) items) in
+    let one : behind k (32 ∷ digitsOf numbers x) ≡ next
+    = behind-run 32 (digitsOf numbers x) k ∙ omega (arith, q, p, last-length 10 (places 9 x) x) in
+    (λ j. behind (sym one j) (itemsText numbers (drop (add-one i j) items)))
+    ∙ sym (behind-append (32 ∷ digitsOf numbers x) rest k)
+    ∙ sym (ap (λ (l : List ℕ). behind k (itemsText numbers l)) (drop-cons items i 0 h)) ∙ e
+
+pub behind-done : (items : List ℕ) (at k i : ℕ) → Behind items at k i → length items ≤ i
+    → k ≡ behind at (itemsText numbers items)
+unfolding itemsText behind
+behind-done items at k i e h = rw (drop-of-length-le items h) at e
+
+-- floats at once
+floats-long : (xs : List ℕ) → length (itemsText floats xs) ≡ length xs * 9
+unfolding itemsText
+floats-long [] = refl
+floats-long (x ∷ xs) =
+    omega (
+      arith,
+      floats-long xs,
+      last-length 16 8 x,
+      length-append (digitsOf floats x) (itemsText floats xs),
+    )
+
+pub floats-behind : (xs : List ℕ) (at : ℕ)
+    → pick (eqb (length xs) 0) at (min (at + length xs * 9) farthest) ≡ behind at (itemsText floats xs)
+unfolding itemsText behind
+floats-behind [] at = refl
+floats-behind (x ∷ xs) at =
+    ap (λ (b : Bool). pick b at (min (at + suc (length xs) * 9) farthest)) (ne-eqb (suc (length xs)) 0 (λ z. omega (arith, z)))
+    ∙ omega (arith, floats-long (x ∷ xs))
+    ∙ sym (behind-run 32 (digitsOf floats x ++ itemsText floats xs) at)
 
 -- ---- a list part by part
 pub record Parts {A : Type 0} (text : List A → List ℕ) (part : A → List ℕ) : Type 0 where

@@ -26,6 +26,11 @@ unfoldable pub pushes : List ℕ → Out → Out
 pushes [] o = o
 pushes (b ∷ bs) o = pushes bs (push b o)
 
+-- the place behind them
+unfoldable pub behind : ℕ → List ℕ → ℕ
+behind at [] = at
+behind at (b ∷ bs) = behind (min (suc at) farthest) bs
+
 -- what a function that puts bytes promises of the output, the place that it is given and the one that it answers
 abbrev pub Puts : List ℕ → Words → ℕ → ℕ → Type 0
 Puts bs out at next = outAt (now (out .exit)) next ≡ pushes bs (outAt (now (out .entry)) at)

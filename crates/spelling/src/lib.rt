@@ -2,13 +2,15 @@
 // also past the end, so that the same function tells how much room is needed.
 ghost use mathlib.Core.Path.{_≡_};
 ghost use mathlib.Core.List.{[], _∷_, map};
-ghost use Prim.Native.Nat.{_+_, _≤_, _<_, min};
+ghost use Prim.Native.Nat.{_+_, _*_, _≤_, _<_, min};
+ghost use lib.Dec.{ltb, eqb};
 ghost use lib.Ieee.{binary32, toBits};
 ghost use lib.ListN.{length, set};
 ghost use lib.Seq.{sets};
 ghost use Rattle.grammar.specs.Digits.{numbers, floats, hexDigit, lastDigits, places, digitsOf, sortFor};
 ghost use Rattle.grammar.specs.Digits.{itemsText};
-ghost use Rattle.spelling.specs.Pushed.{farthest, Puts};
+ghost use Rattle.model.specs.Lists.{pick};
+ghost use Rattle.spelling.specs.Pushed.{farthest, Puts, behind};
 
 // The place so many bytes on.
 fn advanced(at: usize, count: usize) -> usize
@@ -66,18 +68,61 @@ fn letter(d: u32) -> u8
 fn places(n: u32) -> usize
     ensures { λ r. ⌜ (r ≡ places 9 n) × (r ≤ 10) ⌝ }
 {
-    let mut left: usize = 9;
-    let mut count: usize = 1;
-    let mut m = n;
-    while 0 < left {
-        if m < 10 {
-            return count;
-        }
-        m = m / 10;
-        count += 1;
-        left -= 1;
+    if n < 100_000 {
+        return few_places(n);
     }
-    count
+    if n < 1_000_000 {
+        return 6;
+    }
+    if n < 10_000_000 {
+        return 7;
+    }
+    if n < 100_000_000 {
+        return 8;
+    }
+    if n < 1_000_000_000 {
+        return 9;
+    }
+    10
+}
+
+// The same of a number of at most five digits.
+fn few_places(n: u32) -> usize
+    requires { ⌜ n < 0x1_86a0 ⌝ }
+    ensures { λ r. ⌜ (r ≡ places 9 n) × (r ≤ 5) ⌝ }
+{
+    if n < 10 {
+        return 1;
+    }
+    if n < 100 {
+        return 2;
+    }
+    if n < 1_000 {
+        return 3;
+    }
+    if n < 10_000 {
+        return 4;
+    }
+    5
+}
+
+// 1 where n is above a limit, otherwise 0.
+fn above(limit: u32, n: u32) -> usize
+    ensures { λ r. ⌜ (r ≡ pick (ltb limit n) 1 0) × (r ≤ 1) ⌝ }
+{
+    (limit < n) as usize
+}
+
+// How many decimal digits n has, without a branch.
+fn places_at_once(n: u32) -> usize
+    ensures { λ r. ⌜ (r ≡ places 9 n) × (r ≤ 10) ⌝ }
+{
+    let low = above(9, n) + above(99, n) + above(999, n) + above(9_999, n) + above(99_999, n);
+    let high = above(999_999, n)
+        + above(9_999_999, n)
+        + above(99_999_999, n)
+        + above(999_999_999, n);
+    1 + low + high
 }
 
 // The last `count` digits of n, from the last one back.
@@ -144,10 +189,26 @@ pub fn put_item(out: &mut [u8], at: usize, float: bool, n: u32) -> usize
     put_digits(out, at, 10, places(n), n)
 }
 
+// The place behind a list of numbers.
+fn behind_numbers(at: usize, items: &[u32]) -> usize
+    ensures { λ r. ⌜ r ≡ behind at (itemsText numbers (now (items .entry))) ⌝ }
+{
+    let mut k = at;
+    let mut i = 0;
+    while i < items.len() {
+        k = advanced(k, places_at_once(items[i]) + 1);
+        i += 1;
+    }
+    k
+}
+
 // Puts a list of numbers, each behind a space.
 pub fn put_numbers(out: &mut [u8], at: usize, items: &[u32]) -> usize
     ensures { λ r. ⌜ Puts (itemsText numbers (now (items .entry))) out at r ⌝ }
 {
+    if out.len() <= at {
+        return behind_numbers(at, items);
+    }
     let mut k = at;
     let mut i = 0;
     while i < items.len() {
@@ -157,10 +218,28 @@ pub fn put_numbers(out: &mut [u8], at: usize, items: &[u32]) -> usize
     k
 }
 
+// The place behind so many floats.
+fn behind_floats(at: usize, count: usize) -> usize
+    ensures { λ r. ⌜ r ≡ pick (eqb count 0) at (min (at + count * 9) farthest) ⌝ }
+{
+    if count == 0 {
+        return at;
+    }
+    if at < 0x8000_0000_0000_0000 {
+        if count <= (0x8000_0000_0000_0000 - at) / 9 {
+            return at + count * 9;
+        }
+    }
+    0x8000_0000_0000_0000
+}
+
 // Puts a list of floats, each behind a space.
 pub fn put_floats(out: &mut [u8], at: usize, items: &[f32]) -> usize
     ensures { λ r. ⌜ Puts (itemsText floats (map (toBits binary32) (now (items .entry)))) out at r ⌝ }
 {
+    if out.len() <= at {
+        return behind_floats(at, items.len());
+    }
     let mut k = at;
     let mut i = 0;
     while i < items.len() {

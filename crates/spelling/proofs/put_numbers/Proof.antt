@@ -1,12 +1,13 @@
 -- `spelling::put_numbers` meets its contract. Assumes nothing.
-use mathlib.Core.Path.{refl}
+use mathlib.Core.Path.{refl, sym, ap, _∙_}
 use mathlib.Core.List.{List, _∷_}
 use Prim.Native.Nat.{ℕ, _-_}
+use native.Mathlib.Omega.{arith}
 use borrow.Author.Needs.{needs}
 use lib.ListN.{length}
 use Rattle.grammar.specs.Digits.{numbers, digitsOf, itemsText}
 use Rattle.spelling.specs.Pushed.{outAt}
-use Rattle.spelling.proofs.Pushing.{Parts, Going, going-length, going-more, going-done}
+use Rattle.spelling.proofs.Pushing.{Parts, Going, going-length, going-more, going-done, put-past}
 use Rattle.spelling.proofs.put_numbers.Statement.{statement}
 use Rattle.spelling.proofs.put_numbers.Tie as tie
 
@@ -36,7 +37,14 @@ same-length : tie.Need-same-length Inv-loop μ-loop
 same-length c = going-length _ _ _ _ (c .before .loop .inv)
 
 returns : tie.Need-returns Inv-loop μ-loop
-returns c = going-done parts _ _ _ _ (c .before .loop .inv) (c .loop-test .left)
+returns c =
+    let t = c .before in
+    let a = t .before .before .before .args in
+    sym (put-past (text (a .items .now)) (a .out .now) (a .at) (t .if1 .taken) (omega arith)
+    ∙ ap (outAt (a .out .now)) (sym (c .behind-numbers .ensures)))
+
+returns-2 : tie.Need-returns-2 Inv-loop μ-loop
+returns-2 c = going-done parts _ _ _ _ (c .before .loop .inv) (c .loop-test .left)
 
 pub put-numbers-spec : {M : Type 1} → statement M
 put-numbers-spec =
@@ -44,6 +52,8 @@ put-numbers-spec =
     (tie.spec
     Inv-loop
     μ-loop
+    (λ c κs. search needs)
+    returns
     loop-holds
     (λ c. search needs)
     (λ c. search needs)
@@ -52,4 +62,4 @@ put-numbers-spec =
     (λ c. search needs)
     loop-again
     same-length
-    returns)
+    returns-2)

@@ -99,15 +99,16 @@ impl Scan<'_> {
 
     fn field(&mut self, field: &Field) -> Step<()> {
         let mut items = 0;
+        let mut are_floats = true;
         while self.next() == Some(b' ') {
             self.at += 1;
             match field.sort {
                 Sort::Number => self.number()?,
-                Sort::Float => self.float()?,
+                Sort::Float => are_floats &= self.float()?,
             }
             items += 1;
         }
-        self.close(field.count.holds(items))
+        self.close(are_floats && field.count.holds(items))
     }
 
     fn close(&mut self, holds: bool) -> Step<()> {
@@ -163,23 +164,19 @@ impl Scan<'_> {
         is_there.then_some(()).ok_or(self.at)
     }
 
-    /// Digits that the one NaN starts with, or the least pattern that starts with
-    /// them is no NaN.
-    fn float(&mut self) -> Step<()> {
-        const NAN: u32 = 0x7fc0_0000;
+    /// Eight digits; answers whether they are the bits of a float: another NaN than
+    /// the one breaks the shape of its field.
+    fn float(&mut self) -> Step<bool> {
         let mut bits = 0;
-        for shift in (0..8).rev().map(|digit| 4 * digit) {
+        for _ in 0..8 {
             let digit = match self.next() {
                 Some(digit @ b'0'..=b'9') => digit - b'0',
                 Some(digit @ b'a'..=b'f') => digit - b'a' + 10,
                 _ => return Err(self.at),
             };
-            bits |= u32::from(digit) << shift;
-            if f32::from_bits(bits).is_nan() && bits >> shift != NAN >> shift {
-                return Err(self.at);
-            }
+            bits = bits << 4 | u32::from(digit);
             self.at += 1;
         }
-        Ok(())
+        Ok(!f32::from_bits(bits).is_nan() || bits == 0x7fc0_0000)
     }
 }
