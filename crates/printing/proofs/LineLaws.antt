@@ -77,7 +77,8 @@ vertex-filled x y z {c = c} {p = p} {q = q} {r = r} {three = three} i j k f g h 
 abbrev pub Going : List Float → Out → Out → ℕ → Type 0
 Going ps lent left i = (i ≤ length ps) × (pushes (verticesText (drop i ps)) left ≡ pushes (verticesText ps) lent)
 
-pub vertex-next : (d : Float) (ps : List Float) (i : ℕ) (lent mid : Out) {left : Out} → Going ps lent mid i → 2 < length ps - i
+pub vertex-next : (d : Float) (ps : List Float) (i : ℕ) (lent mid : Out) {left : Out} → Going ps lent mid i
+    → 2 < length ps - i
     → left ≡ pushes (vertexText (getD ps i d) (getD ps (i + 1) d) (getD ps (i + 2) d)) mid
     → Going ps lent left (i + 3)
 unfolding verticesText

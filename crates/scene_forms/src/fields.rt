@@ -222,6 +222,25 @@ fn field(
     }
 }
 
+// The same, made anew: to copy it whole takes the bytes between its fields along, which are slow to read back.
+fn renewed(s: Spot) -> Spot
+    ensures { λ r. ⌜ r ≡ s ⌝ }
+{
+    let counts = s.counts;
+    Spot {
+        next: s.next,
+        counts,
+        met: Met {
+            at: s.met.at,
+            ok: s.met.ok,
+        },
+        shape: Met {
+            at: s.shape.at,
+            ok: s.shape.ok,
+        },
+    }
+}
+
 // The fields of a form of kind k.
 pub fn fields(
     text: &[u8],
@@ -244,7 +263,7 @@ pub fn fields(
         let e = field(text, k, j, q, words, floats, node_weights, mesh_weights);
         let m = e.mark;
         scene_marks::set_mark(&mut marks, j, m);
-        q = e.spot;
+        q = renewed(e.spot);
         j += 1;
     }
     Row { spot: q, marks }

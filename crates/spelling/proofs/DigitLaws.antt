@@ -48,6 +48,18 @@ digits-none at base (suc k) m left h = absurd (omega arith)
 
 -- ---- how many digits
 
+pub places-small : (k n : ℕ) → n < 10 → places k n ≡ 1
+unfolding places
+places-small zero n h = refl
+places-small (suc k) n h = simp (lt-ltb n 10 h)
+
+pub places-more : (k n : ℕ) → 0 < k → 10 ≤ n → places k n ≡ suc (places (k - 1) (n / 10))
+unfolding places
+places-more zero n o h = absurd (omega arith)
+places-more (suc k) n o h =
+    let one : k ≡ suc k - 1 = omega arith in
+    simp (le-ltb n 10 h) (ap (λ (i : ℕ). suc (places i (n / 10))) one)
+
 one-at-least : (d : ℕ) → 0 < 10 ^ d
 one-at-least zero = omega (arith, pow-zero 10)
 one-at-least (suc d) = omega (arith, pow-suc 10 d, one-at-least d)

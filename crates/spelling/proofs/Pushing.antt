@@ -154,7 +154,8 @@ pub floats-behind : (xs : List ℕ) (at : ℕ)
 unfolding itemsText behind
 floats-behind [] at = refl
 floats-behind (x ∷ xs) at =
-    ap (λ (b : Bool). pick b at (min (at + suc (length xs) * 9) farthest)) (ne-eqb (suc (length xs)) 0 (λ z. omega (arith, z)))
+    let some = ne-eqb (suc (length xs)) 0 (λ z. omega (arith, z)) in
+    ap (λ (b : Bool). pick b at (min (at + suc (length xs) * 9) farthest)) some
     ∙ omega (arith, floats-long (x ∷ xs))
     ∙ sym (behind-run 32 (digitsOf floats x ++ itemsText floats xs) at)
 

@@ -158,7 +158,8 @@ module _ (text : List ℕ) where
   -- a text that is baked
   pub readable : {needed : Needed} → needed ≡ neededFor text → needed .number ≡ 0
       → Readable text × (needed ≡ roomOf text)
-  readable {needed} e z = go (ltb textLimit (length text)) refl (sym early ∙ sym (ap (λ (x : Needed). x .number) e) ∙ z) e
+  readable {needed} e z =
+      go (ltb textLimit (length text)) refl (sym early ∙ sym (ap (λ (x : Needed). x .number) e) ∙ z) e
     where
       go : (b : Bool) → ltb textLimit (length text) ≡ b → pick b 2 (firstOf (roomTests text)) ≡ 0
           → needed ≡ pick b (neededAs 2 noLengths) (roomOf text)

@@ -1,5 +1,5 @@
 //! Scenes as bracketed text: the reader and the writer beside plain ones, which
-//! are written from docs/TEXT.md and docs/TABLES.md alone.
+//! are written from docs/TEXT.md and docs/TABLES.md, not from the code.
 
 mod breaks;
 mod damages;

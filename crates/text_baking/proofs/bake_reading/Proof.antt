@@ -2,7 +2,8 @@
 use mathlib.Core.Path.{sym}
 use borrow.Author.Needs.{needs}
 use lib.Seq.{length-take-le}
-use Rattle.text_baking.proofs.Readings.{zeros-long, words-in, floats-in, node-weights-in, mesh-weights-in, put-read}
+use Rattle.text_baking.proofs.Readings.{zeros-long, words-in, floats-in, node-weights-in, mesh-weights-in}
+use Rattle.text_baking.proofs.Readings.{put-read}
 use Rattle.text_baking.proofs.bake_reading.Statement.{statement}
 use Rattle.text_baking.proofs.bake_reading.Tie as tie
 

@@ -1,5 +1,5 @@
 //! A plain reader of scenes as bracketed text, written from docs/TEXT.md and
-//! docs/TABLES.md alone: one pass from the first byte to the last, a function
+//! docs/TABLES.md, not from the code: one pass from the first byte to the last, a function
 //! for each form.
 
 use super::items::{float, floats, number, part};

@@ -21,7 +21,7 @@ const OF_FLOATS: [(&str, usize, usize); 4] = [
     ("1 MB of floats", 11_600, 1),
     ("10 MB of floats", 58_000, 2),
 ];
-/// Vertices of a primitive whose text is mostly of ids, 24 bytes a vertex.
+/// Vertices of a primitive whose text is mostly of ids, four a vertex.
 const OF_IDS: usize = 41_000;
 
 pub fn measure() {
@@ -32,8 +32,12 @@ pub fn measure() {
         let scene = with_primitives(primitives.collect());
         measure_scene(name, true, &scene);
     }
-    let scene = with_primitives(vec![of_ids(&mut rng)]);
-    measure_scene("1 MB of ids", true, &scene);
+    let joints = with_primitives(vec![of_ids(&mut rng, |rng| rng.below(256) as u32)]);
+    measure_scene("joints below 256", true, &joints);
+    let ids = |rng: &mut Rng| rng.bits() as u32 >> rng.below(32);
+    let ids = with_primitives(vec![of_ids(&mut rng, ids)]);
+    measure_scene("ids of any length", true, &ids);
+    measure_scene("1,024 nodes", true, &of_nodes());
 }
 
 /// A byte, or a call.
@@ -128,12 +132,23 @@ fn rows<const N: usize>(rng: &mut Rng, count: usize) -> Vec<[f32; N]> {
         .collect()
 }
 
-/// Of any length.
-fn of_ids(rng: &mut Rng) -> Primitive {
-    let mut id = || rng.bits() as u32 >> rng.below(32);
-    let joints = repeat_with(|| from_fn(|_| id())).take(OF_IDS);
+fn of_ids(rng: &mut Rng, id: fn(&mut Rng) -> u32) -> Primitive {
+    let joints = repeat_with(|| from_fn(|_| id(rng))).take(OF_IDS);
     Primitive {
         joints: Some(joints.collect()),
         ..Primitive::default()
+    }
+}
+
+/// Each lists the next one.
+fn of_nodes() -> Scene3D {
+    let node = |id: u32| Node {
+        children: vec![NodeId(id + 1)],
+        ..Node::new()
+    };
+    Scene3D {
+        nodes: (0..1_024).map(node).collect(),
+        roots: vec![NodeId(0)],
+        ..Scene3D::new()
     }
 }

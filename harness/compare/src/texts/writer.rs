@@ -1,5 +1,5 @@
 //! A plain writer of scenes as bracketed text, written from docs/TEXT.md and
-//! docs/TABLES.md alone. The tables are to draw no number.
+//! docs/TABLES.md, not from the code. The tables are to draw no number.
 
 use mesh3d::raw::{Part, Scene};
 

@@ -43,11 +43,21 @@ field-requires c κs =
     let l = t .before in
     (l .loop .inv .within, begun l .pre .1, inside t)
 
+add-j : tie.Need-add-j Inv-loop μ-loop
+add-j c =
+    let t = turned (read (c .before .before)) in
+    omega (arith, inside t, kind-is _ (begun (t .before) .pre .1) .few)
+
+loop-less : tie.Need-loop-less Inv-loop μ-loop
+loop-less c = let t = turned (read (c .before .before)) in omega (arith, t .loop-test .taken)
+
 loop-again : tie.Need-loop-again Inv-loop μ-loop
 loop-again c =
-    let f = read (c .before .before) in
+    let m = c .before in
+    let f = read (m .before) in
     let t = turned f in
-    fields-more (t .before .loop .inv) (inside t) (f .field .ensures) (c .before .set-mark .ensures)
+    rw (c .renewed .ensures)
+    (fields-more (t .before .loop .inv) (inside t) (f .field .ensures) (m .set-mark .ensures))
 
 same-length : tie.Need-same-length Inv-loop μ-loop
 same-length c = c .before .loop .inv .long .words
@@ -77,8 +87,9 @@ fields-spec =
     loop-holds
     field-requires
     (λ c κs. search needs)
-    (λ c. search needs)
-    (λ c. search needs)
+    (λ c κs. search needs)
+    add-j
+    loop-less
     loop-again
     same-length
     same-length-2
