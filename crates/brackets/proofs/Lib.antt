@@ -1,4 +1,2 @@
-pub mod EightLaws
 pub mod MeetingLaws
 pub mod ReadingLaws
-pub mod ShortLaws

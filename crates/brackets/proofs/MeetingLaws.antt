@@ -8,8 +8,9 @@ use native.Mathlib.Omega.{arith}
 use borrow.Author.Tests.{lt-ltb, eq-eqb}
 use lib.ListN.{length, getD, drop, length-drop, drop-of-length-le}
 use lib.Seq.{drop-cons}
+use Rattle.digits.specs.Standing.{Stands}
 use Rattle.brackets.specs.declared.Met.{Met}
-use Rattle.brackets.specs.Met.{metAt, meet, meets, Stands}
+use Rattle.brackets.specs.Met.{metAt, meet, meets}
 
 pub meets-append : (text xs ys : List ℕ) (m : Met) → meets text (xs ++ ys) m ≡ meets text ys (meets text xs m)
 unfolding meets

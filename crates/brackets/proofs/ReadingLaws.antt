@@ -8,23 +8,22 @@ use native.Mathlib.Numerals.{add-one}
 use native.Mathlib.Omega.{arith}
 use borrow.Author.Tests.{lt-ltb, le-ltb, ltb-true, ltb-false, eq-eqb, ne-eqb}
 use lib.Dec.{T, ltb, eqb}
-use lib.ListN.{length, getD, take, drop, length-drop, take-append-drop, drop-of-length-le, List·getD-eq-default}
-use lib.Seq.{drop-cons, drop-drop, getD-drop, length-take-le, set-out, sets, length-sets}
+use lib.ListN.{length, getD, drop, length-drop, drop-of-length-le, List·getD-eq-default}
+use lib.Seq.{drop-cons, drop-drop, getD-drop, set-out, sets, length-sets}
 use Rattle.model.specs.Lists.{pick, every, foldl}
 use Rattle.grammar.specs.Digits.{Sort, numbers, floats, baseOf, digitsOf, itemsText}
 use Rattle.grammar.specs.Shape.{sorted}
 use Rattle.grammar.specs.Parsed.{Got, got, onto, digitOf, onward, wordIn, nameIn, itemsIn}
 use Rattle.grammar.proofs.Words.{Stops, digits-spell, word-read}
-use Rattle.spelling.proofs.DigitLaws.{last-length}
+use Rattle.digits.specs.Standing.{Stands, ItemStands}
+use Rattle.digits.proofs.StandingLaws.{stands-one}
 use Rattle.brackets.specs.declared.Item.{Item}
 use Rattle.brackets.specs.declared.Listed.{Listed}
 use Rattle.brackets.specs.declared.Met.{Met}
 use Rattle.brackets.specs.declared.Spelling.{Spelling}
 use Rattle.brackets.specs.declared.Told.{Told}
-use Rattle.brackets.specs.Met.{meets, Stands}
-use Rattle.brackets.specs.Packed.{packed, Written}
+use Rattle.brackets.specs.Met.{meets}
 use Rattle.brackets.specs.Read.{Passed, WordRead, ItemRead, ItemsRead, oneMore, listedAs, itemsAt}
-use Rattle.brackets.proofs.EightLaws.{digits-written}
 use Rattle.brackets.proofs.MeetingLaws.{meets-append}
 
 -- ---- places
@@ -200,11 +199,19 @@ item-read {s} p q e =
     let word = word-as p (ap (wordIn (baseOf s) 0) (sym (p .left))) q in
     record { told = ap (λ (v : ℕ). v % 0x1_0000_0000) (word .told); passed = word .passed; compared = e }
 
--- an item as it is written, where no letter is behind it
-pub item-there : {s : Sort} {text : List ℕ} {at next v : ℕ} {met m : Met} → Stands text at next (32 ∷ digitsOf s v)
-    → v < 0x1_0000_0000 → next < length text → getD text next 0 < 48 → m ≡ meets text (32 ∷ digitsOf s v) met
+-- an item behind a space as it is written
+pub item-stands : {s : Sort} {text : List ℕ} {at next v : ℕ} → getD text at 0 ≡ 32
+    → ItemStands s text (at + 1) next v → Stands text at next (32 ∷ digitsOf s v)
+item-stands {text = text} {at} e i = stands-one (in-text text at e) e (i .stands)
+
+pub item-there : {s : Sort} {text : List ℕ} {at next v : ℕ} {met m : Met} → getD text at 0 ≡ 32
+    → ItemStands s text (at + 1) next v → m ≡ meets text (32 ∷ digitsOf s v) met
     → ItemRead s text at met (record { value = v; next = next; met = m })
-item-there {s} {text} {at} {next} {v} p h i l e =
+item-there {s} {text} {at} {next} {v} space there e =
+    let p = item-stands space there in
+    let h = there .small in
+    let i = there .inside in
+    let l = there .stops in
     let rest = drop next text in
     let spells = digits-spell s v h in
     let stops : Stops rest = rw (drop-cons text next 0 i) (subst T (sym (lt-ltb (getD text next 0) 48 l)) tt) in
@@ -220,25 +227,6 @@ item-there {s} {text} {at} {next} {v} p h i l e =
         inside = λ q. omega arith;
       };
       compared = e;
-    }
-
--- eight bytes behind a space that are the digits of their number
-pub float-there : {text bs : List ℕ} {at v : ℕ} → getD text at 0 ≡ 32 → at + 9 < length text
-    → bs ≡ take (at + 9 - (at + 1)) (drop (at + 1) text) → Written bs → v ≡ packed 16 0 (map digitOf bs)
-    → Stands text at (at + 9) (32 ∷ digitsOf floats v)
-float-there {text} {bs} {at} {v} s h b w e =
-    let from = drop (at + 1) text in
-    let eight : at + 9 - (at + 1) ≡ 8 = omega arith in
-    let taken : bs ≡ take 8 from = b ∙ ap (λ (n : ℕ). take n from) eight in
-    let long : length bs ≡ 8 = ap length taken ∙ length-take-le 8 from (omega (arith, length-drop (at + 1) text)) in
-    let written = sym taken ∙ sym (digits-written bs v long w e) in
-    let on : at + 1 + 8 ≡ at + 9 = omega arith in
-    let behind = drop-drop 8 (at + 1) text ∙ ap (λ (k : ℕ). drop k text) on in
-    let rest = ap (λ (k : ℕ). drop k text) (sym (add-one at)) ∙ sym (take-append-drop 8 from)
-    ∙ (λ j. written j ++ behind j) in
-    record {
-      here = drop-cons text at 0 (omega arith) ∙ (λ j. s j ∷ rest j);
-      far = omega (arith, last-length 16 8 v);
     }
 
 items-on : (base left : ℕ) (s : List ℕ) → 0 < left → getD s 0 0 ≡ 32 → itemsIn left base s

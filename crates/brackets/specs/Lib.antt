@@ -1,4 +1,2 @@
 pub mod Met
-pub mod Packed
 pub mod Read
-pub mod Shorts

@@ -1,11 +1,10 @@
 -- A text compared with the bytes that are expected of it, one after the other: how far the two are the same, and
 -- whether nothing has departed yet. Definitions only.
-use mathlib.Core.Path.{_≡_}
 use mathlib.Core.Bool.{Bool, true, false, _&&_, not}
-use mathlib.Core.List.{List, [], _∷_, _++_}
+use mathlib.Core.List.{List, [], _∷_}
 use Prim.Native.Nat.{ℕ, _+_}
 use lib.Dec.{ltb, eqb}
-use lib.ListN.{length, getD, drop}
+use lib.ListN.{length, getD}
 use Rattle.model.specs.Lists.{pick}
 use Rattle.brackets.specs.declared.Met.{Met}
 
@@ -21,11 +20,6 @@ meet text b m =
 unfoldable pub meets : List ℕ → List ℕ → Met → Met
 meets text [] m = m
 meets text (b ∷ bs) m = meets text bs (meet text b m)
-
--- so many bytes stand from one place of a text to the next
-pub record Stands (text : List ℕ) (at next : ℕ) (bs : List ℕ) : Type 0 where
-  pub here : drop at text ≡ bs ++ drop next text
-  pub far : next ≡ at + length bs
 
 -- the first place of which something does not hold
 abbrev pub judge : Bool → ℕ → Met → Met

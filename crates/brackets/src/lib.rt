@@ -1,9 +1,7 @@
 // Nested brackets in a text: words, names, lists of items. What is read is made of any text; beside it the text is
 // compared with the text of what was read.
-mod eights;
 mod meeting;
 mod reading;
-mod shorts;
 
 pub use meeting::judge;
 pub use meeting::meet;
@@ -41,18 +39,6 @@ struct Item {
     value: u32,
     next: usize,
     met: Met,
-}
-
-// The number that eight bytes spell in hexadecimal, and whether they are its digits.
-struct Eight {
-    value: u32,
-    written: bool,
-}
-
-// A number of one to three decimal digits, and how many there are, 0 where there is no such number.
-struct Short {
-    value: u32,
-    count: u32,
 }
 
 // What has been told of the items read so far.

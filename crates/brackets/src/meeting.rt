@@ -2,7 +2,8 @@ use crate::Met;
 ghost use mathlib.Core.Path.{_≡_};
 ghost use mathlib.Core.List.{_∷_};
 ghost use Rattle.grammar.specs.Digits.{digitsOf, sortFor};
-ghost use Rattle.brackets.specs.Met.{meet, meets, judge, Stands};
+ghost use Rattle.digits.specs.Standing.{Stands};
+ghost use Rattle.brackets.specs.Met.{meet, meets, judge};
 
 // One expected byte more.
 pub fn meet(text: &[u8], m: Met, b: u8) -> Met

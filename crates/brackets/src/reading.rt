@@ -4,11 +4,13 @@ use crate::Met;
 use crate::Spelling;
 use crate::Told;
 ghost use mathlib.Core.Path.{_≡_};
+ghost use mathlib.Core.Bool.{_&&_};
+ghost use mathlib.Core.List.{[], _∷_};
 ghost use Prim.Native.Nat.{_≤_, _<_};
 ghost use lib.Ieee.{binary32, ofBits};
 ghost use lib.ListN.{getD, drop};
 ghost use Rattle.grammar.specs.Digits.{numbers, floats, baseOf, sortFor};
-ghost use Rattle.grammar.specs.Shape.{isFloat};
+ghost use Rattle.grammar.specs.Shape.{isFloat, sorted};
 ghost use Rattle.grammar.specs.Parsed.{digitOf, wordIn, nameIn};
 ghost use Rattle.brackets.specs.Read.{Passed, WordRead, ItemRead, ReadsItems, Stores, oneMore, listedAs};
 
@@ -90,47 +92,34 @@ fn take_item(text: &[u8], at: usize, float: bool, met: Met) -> Item
     }
 }
 
-// A float behind a space: eight digits at once where they are such, else as any item.
+// A float behind a space: at once where it stands as it is written, else as any item.
 fn take_float(text: &[u8], at: usize, met: Met) -> Item
     requires { ⌜ getD (now text) at 0 ≡ 32 ⌝ }
     ensures { λ r. ⌜ ItemRead floats (now (text .entry)) at met r ⌝ }
 {
-    let from = at + 1;
-    let next = at + 9;
-    if next < text.len() {
-        if text[next] < 48 {
-            let e = crate::eights::eight_digits(&text[from..next]);
-            if e.written {
-                return Item {
-                    value: e.value,
-                    next,
-                    met: crate::meeting::meet_there(text, met, at, next, true, e.value),
-                };
-            }
-        }
+    let d = digits::float_at(text, at + 1);
+    if d.written {
+        return Item {
+            value: d.value,
+            next: d.next,
+            met: crate::meeting::meet_there(text, met, at, d.next, true, d.value),
+        };
     }
     take_item(text, at, true, met)
 }
 
-// A number behind a space: at once where it is short, else as any item.
+// A number behind a space, likewise.
 fn take_number(text: &[u8], at: usize, met: Met) -> Item
     requires { ⌜ getD (now text) at 0 ≡ 32 ⌝ }
     ensures { λ r. ⌜ ItemRead numbers (now (text .entry)) at met r ⌝ }
 {
-    let i = at + 1;
-    let j = i + 1;
-    let k = j + 1;
-    let l = k + 1;
-    if l < text.len() {
-        let s = crate::shorts::short(text[i], text[j], text[k], text[l]);
-        if 0 < s.count {
-            let next = i + s.count as usize;
-            return Item {
-                value: s.value,
-                next,
-                met: crate::meeting::meet_there(text, met, at, next, false, s.value),
-            };
-        }
+    let d = digits::number_at(text, at + 1);
+    if d.written {
+        return Item {
+            value: d.value,
+            next: d.next,
+            met: crate::meeting::meet_there(text, met, at, d.next, false, d.value),
+        };
     }
     take_item(text, at, false, met)
 }
@@ -157,29 +146,45 @@ fn store_float(cells: &mut [f32], k: usize, x: u32) -> usize
     k
 }
 
+// Whether all are of their sort, with one item more.
+fn sorted_on(so_far: bool, float: bool, x: u32) -> bool
+    ensures { λ r. ⌜ r ≡ («so_far» && sorted (sortFor float) (x ∷ [])) ⌝ }
+{
+    if !float {
+        return so_far;
+    }
+    if is_float(x) {
+        return so_far;
+    }
+    false
+}
+
 // One item more.
 fn one_more(t: Told, float: bool, x: u32) -> Told
     requires { ⌜ t .count < 0xffff_ffff_ffff_ffff ⌝ }
     ensures { λ r. ⌜ r ≡ oneMore (sortFor float) t x ⌝ }
 {
-    let mut first = t.first;
-    if t.count == 0 {
-        first = x;
+    let sorted = sorted_on(t.sorted, float, x);
+    if 1 < t.count {
+        return Told {
+            count: t.count + 1,
+            first: t.first,
+            second: t.second,
+            sorted,
+        };
     }
-    let mut second = t.second;
     if t.count == 1 {
-        second = x;
-    }
-    let mut sorted = t.sorted;
-    if float {
-        if !is_float(x) {
-            sorted = false;
-        }
+        return Told {
+            count: 2,
+            first: t.first,
+            second: x,
+            sorted,
+        };
     }
     Told {
-        count: t.count + 1,
-        first,
-        second,
+        count: 1,
+        first: x,
+        second: t.second,
         sorted,
     }
 }

@@ -83,6 +83,10 @@ fn answer(text: &[u8]) {
 fn main() {
     let mut buffer = [0u8; 32768];
     let got = io::read_full(STDIN_FILENO, &mut buffer);
+    if got == 32768 {
+        io::write_all(STDOUT_FILENO, b"too many texts: 32768 bytes or more\n");
+        return;
+    }
     let mut at = 0;
     while at < got {
         let end = end_of(&buffer, at);
