@@ -1,7 +1,7 @@
 -- Places in a text, and the words, names and items that are read from there on. Assumes nothing.
 use mathlib.Core.Path.{_≡_, refl, sym, ap, subst, _∙_}
 use mathlib.Core.Bool.{Bool, true, false, _&&_, and-true, and-assoc}
-use mathlib.Core.List.{List, [], _∷_, _++_, map}
+use mathlib.Core.List.{List, [], _∷_, map}
 use Prim.Native.Nat.{ℕ, zero, suc, _+_, _*_, _-_, _%_, _≤_, _<_}
 use native.Mathlib.Nat.{add-zero, mul-le-mul, mod-eq-of-lt}
 use native.Mathlib.Numerals.{add-one}

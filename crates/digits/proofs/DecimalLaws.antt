@@ -7,7 +7,7 @@ use native.Mathlib.Omega.{arith}
 use borrow.Author.Tests.{lt-ltb, eqb-false}
 use lib.Bits.{bitAnd, and-mask}
 use lib.Dec.{T, ltb, eqb}
-use lib.ListN.{length, getD, take, drop, replicate, length-map}
+use lib.ListN.{length, getD, take, replicate, length-map}
 use Rattle.model.specs.Lists.{every}
 use Rattle.grammar.specs.Digits.{numbers, hexDigit, digitsOf}
 use Rattle.grammar.proofs.Words.{both, and-of}

@@ -2,10 +2,10 @@
 use crate::Standing;
 ghost use mathlib.Core.Path.{_≡_};
 ghost use mathlib.Core.Bool.{false};
-ghost use Prim.Native.Nat.{_<_};
 ghost use Rattle.grammar.specs.Digits.{numbers};
 ghost use Rattle.digits.specs.Standing.{StandsAt, Begins};
 
+// No item.
 pub(crate) fn none(from: usize) -> Standing
     ensures { λ r. ⌜ r .written ≡ false ⌝ }
 {

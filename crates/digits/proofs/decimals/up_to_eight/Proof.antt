@@ -1,7 +1,6 @@
 -- `digits::decimals::up_to_eight` meets its contract. Assumes nothing.
 use mathlib.Core.Path.{sym, ap, subst, _∙_}
 use mathlib.Core.Bool.{Bool, _&&_}
-use native.Mathlib.Omega.{arith}
 use borrow.Author.Needs.{needs}
 use lib.Dec.{T, eqb}
 use Rattle.digits.proofs.DecimalLaws.{decimal-read}
