@@ -1,4 +1,6 @@
 // The bake of one node: `world_mesh_at` of pose.rs.
+#![tactic(auto)]
+
 ghost use Rattle.std.specs.Prelude.{◌≡◌, ◌&&◌, leb};
 ghost use Rattle.checks.specs.Drawn.{scene_lent};
 ghost use Rattle.bake.specs.Baked.{room, Baked};
@@ -8,7 +10,7 @@ use tables::Header;
 
 // A refusal number, or 0; how many floats were put out, and how many entries the placing took.
 #[repr(C)]
-#[derive(Drop)]
+#[derive(Clone, Copy)]
 pub struct Answer {
     pub number: u32,
     pub positions: usize,

@@ -1,4 +1,6 @@
 // The C functions of the bake and of the room that it needs; include/mesh3d.h declares them.
+#![tactic(auto)]
+
 mod baking;
 mod room;
 

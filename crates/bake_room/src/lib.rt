@@ -1,4 +1,6 @@
 // How much room a bake of one node needs: the lengths of its slices, told before it is called.
+#![tactic(auto)]
+
 ghost use Rattle.std.specs.Prelude.{◌≡◌, ◌≤◌};
 ghost use Rattle.model.specs.Limits.{node_limit, root_limit, child_entry_limit};
 ghost use Rattle.checks.specs.Drawn.{scene_lent};
@@ -9,7 +11,7 @@ use tables::{Graph, Header};
 
 // A refusal number, or 0; the lengths of the scratch room and of the three outputs, in entries of each slice.
 #[repr(C)]
-#[derive(Drop)]
+#[derive(Clone, Copy)]
 pub struct Room {
     pub number: u32,
     pub marks: usize,

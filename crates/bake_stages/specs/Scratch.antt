@@ -2,7 +2,7 @@
 -- Definitions only.
 use Rattle.std.specs.Prelude.{◌≡◌, false, List, ◌++◌, ℕ, ◌*◌, ◌≤◌, Float, length, drop, replicate}
 use Rattle.std.specs.Float.Ieee.{is_nan}
-use Rattle.borrowed.specs.Slices.{Words, Floats, Change}
+use Rattle.borrowed.specs.Slices.{SharedWords, SharedFloats, Words, Floats, Change}
 use Rattle.model.specs.Limits.{channel_limit, node_limit}
 use Rattle.model.specs.Scene.{node_count}
 use Rattle.model.specs.Placing.{places, taken}
@@ -66,7 +66,7 @@ scratch_left l time lent =
     }
 
 -- the entries taken are told; the weights of nodes and meshes do not matter
-abbrev pub PosedAndPlaced : Words → Floats → Header → Float → SlicesChange → ℕ → Type 0
+abbrev pub PosedAndPlaced : SharedWords → SharedFloats → Header → Float → SlicesChange → ℕ → Type 0
 PosedAndPlaced words floats h time c told =
     (own mesh : List Float)
     → (told ≡ taken (scene_of (lent_as words.entry.now floats.entry.now own mesh h)))

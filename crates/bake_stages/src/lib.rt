@@ -1,4 +1,6 @@
 // The stages of a bake before its mesh: the numbers that it refuses with, and the pose and the placing.
+#![tactic(auto)]
+
 mod numbers;
 mod palettes;
 mod posing;

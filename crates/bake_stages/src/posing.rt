@@ -15,7 +15,7 @@ pub fn pose_and_place(
     worlds: &mut [f32],
 ) -> usize
     requires { Ready words.now floats.now h time
-        (record { marks = marks.now; slots = slots.old; walk = walk.old; places = places.old; worlds = worlds.old }) }
+        (record { marks = marks.old; slots = slots.old; walk = walk.old; places = places.old; worlds = worlds.old }) }
     ensures { PosedAndPlaced words floats h time (scratch_room marks slots walk places worlds) result }
 {
     let graph = h.graph;

@@ -2,7 +2,7 @@
 -- their limit. Definitions only.
 use Rattle.std.specs.Prelude.{◌≡◌, true, List, [], map, ℕ, ◌<◌, Float, length}
 use Rattle.std.proofs.Math.Option.{Option, some}
-use Rattle.borrowed.specs.Slices.{Words, Floats}
+use Rattle.borrowed.specs.Slices.{SharedWords, SharedFloats, Floats}
 use Rattle.model.specs.Lists.{is_some}
 use Rattle.model.specs.Matrix.{Matrix}
 use Rattle.model.specs.Scene.{node_at, skeleton_at}
@@ -34,8 +34,8 @@ SkeletonsWithin words t = (k : ℕ) → k < t.count → skeleton_within (skeleto
 
 -- the primitives of a mesh, blended with weights, and placed by a world and a palette, stand at the start of the
 -- outputs
-abbrev pub MeshPutOut : Words → Floats → Header → Part → Matrix → Option (List Matrix)
-    → Floats → Floats → Floats → Floats → Type 0
+abbrev pub MeshPutOut : SharedWords → SharedFloats → Header → Part → Matrix → Option (List Matrix)
+    → SharedFloats → Floats → Floats → Floats → Type 0
 MeshPutOut words floats h primitives world palette weights positions normals tangents =
     PutsOut
     (output_of (map (baked_primitive world palette weights.entry.now)
@@ -43,8 +43,8 @@ MeshPutOut words floats h primitives world palette weights positions normals tan
     positions normals tangents
 
 -- with the palette of a skin, where one can be made from the world slots
-abbrev pub SkinnedPutOut : Words → Floats → Header → Part → Matrix → ℕ → Words → Floats
-    → Floats → Floats → Floats → Floats → Type 0
+abbrev pub SkinnedPutOut : SharedWords → SharedFloats → Header → Part → Matrix → ℕ → SharedWords → SharedFloats
+    → SharedFloats → Floats → Floats → Floats → Type 0
 SkinnedPutOut words floats h primitives world skin places worlds' weights positions normals tangents =
     (own mesh : List Float) (p : List Matrix)
     → skin_palette_from (lent_as words.entry.now floats.entry.now own mesh h) skin places.entry.now
@@ -52,8 +52,8 @@ SkinnedPutOut words floats h primitives world skin places worlds' weights positi
     → MeshPutOut words floats h primitives world (some p) weights positions normals tangents
 
 -- with that of what a node names, if that is a skin
-abbrev pub NamedPutOut : Words → Floats → Header → Part → Matrix → Reference → Words → Floats
-    → Floats → Floats → Floats → Floats → Type 0
+abbrev pub NamedPutOut : SharedWords → SharedFloats → Header → Part → Matrix → Reference → SharedWords → SharedFloats
+    → SharedFloats → Floats → Floats → Floats → Type 0
 NamedPutOut words floats h primitives world skin places worlds' weights positions normals tangents =
     (own mesh : List Float) (p : Option (List Matrix))
     → palette_from (lent_as words.entry.now floats.entry.now own mesh h) skin places.entry.now
@@ -93,7 +93,7 @@ pub record Delivered (l : Lent) (i : ℕ) (time : Float) (marks places : List �
       lp p ln n lt t
 
 -- of the slices that a call borrows
-abbrev pub Delivers : Lent → ℕ → Float → Words → Words → Floats → Floats → Floats → Floats → Type 0
+abbrev pub Delivers : Lent → ℕ → Float → SharedWords → SharedWords → SharedFloats → Floats → Floats → Floats → Type 0
 Delivers l i time marks places worlds' positions normals tangents =
     Delivered l i time marks.entry.now places.entry.now worlds'.entry.now
     positions.entry.now positions.exit.now

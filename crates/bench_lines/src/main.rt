@@ -1,8 +1,9 @@
 // Runs the line of the scope's "From the blade bench" that has no star, on a scene that is lent in words
 // (docs/TABLES.md).
-use libc::STDOUT_FILENO;
-use lists::text;
+#![tactic(auto)]
+
 use skin_roots::Root;
+use std::io;
 use tables::{Graph, Header, Meshes, Skins};
 use tracks::Part;
 
@@ -53,15 +54,12 @@ fn header() -> Header {
     }
 }
 
-fn print_root(root: Root) {
+fn print_root(out: &impl Print, root: Root) -> io::Result<()> {
     if root.number == 0 {
-        text(b"root ");
-        io::print_decimal(STDOUT_FILENO, root.node as u64);
+        println!(out; "root {}", root.node)
     } else {
-        text(b"refused with ");
-        io::print_decimal(STDOUT_FILENO, root.number as u64);
+        println!(out; "refused with {}", root.number)
     }
-    text(b"\n");
 }
 
 // The base transforms of all nodes are the first ten floats. There are no weights, so any slice does for them.
@@ -69,11 +67,12 @@ fn root_of(words: &[u32], floats: &[f32], skin: u32) -> Root {
     skin_roots::skin_root(words, floats, floats, floats, header(), skin)
 }
 
-fn main() {
+fn main(rt: HostRuntime) -> io::Result<()> {
+    let out = rt.stdout();
     let words = first_listing();
     let floats = [0.0f32, 0.0, 0.0, 0.0, 0.0, 0.0, 1.0, 1.0, 1.0, 1.0];
-    text(b"Joints 1, 2 of the first listing: ");
-    print_root(root_of(&words, &floats, 0));
-    text(b"Joint 1 alone: ");
-    print_root(root_of(&words, &floats, 1));
+    print!(out; "Joints 1, 2 of the first listing: ")?;
+    print_root(&out, root_of(&words, &floats, 0))?;
+    print!(out; "Joint 1 alone: ")?;
+    print_root(&out, root_of(&words, &floats, 1))
 }

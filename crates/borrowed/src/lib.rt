@@ -1,1 +1,2 @@
 // The slices that a call borrows, as contracts name them: definitions alone, in specs/. There is no code.
+#![tactic(auto)]

@@ -1,6 +1,6 @@
 -- What the functions that read promise. Definitions only.
 use Rattle.std.specs.Prelude.{◌≡◌, ◌&&◌, List, [], ◌∷◌, map, ℕ, ◌+◌, ◌%◌, ◌≤◌, eqb, length, get_or, drop}
-use Rattle.std.specs.Borrow.{Bor}
+use Rattle.std.specs.Borrow.{MutBor}
 use denote.Triple.Both.{Both}
 use Rattle.std.proofs.lemmas.List.Edits.{sets}
 use Rattle.model.specs.Lists.{pick}
@@ -31,7 +31,7 @@ pub record ItemRead (s : Sort) (text : List ℕ) (at : ℕ) (met : Met) (r : Ite
   pub compared : r.met ≡ meets text (32 ∷ digits_of s r.value) met
 
 -- one more of what is stored one after the other, as `f` has it
-abbrev pub Stores : {A : Type 0} → (ℕ → A) → Both (Bor (List A)) (Bor (List A)) → ℕ → ℕ → ℕ → Type 0
+abbrev pub Stores : {A : Type 0} → (ℕ → A) → Both (MutBor (List A)) (MutBor (List A)) → ℕ → ℕ → ℕ → Type 0
 Stores {A} f cells k x next =
     (xs : List A) → sets cells.exit.now next xs ≡ sets cells.entry.now k (f x ∷ xs)
 
@@ -72,5 +72,5 @@ pub record ItemsRead {A : Type 0} (f : ℕ → A) (s : Sort) (text : List ℕ) (
   pub few : at + r.count ≤ r.next
 
 abbrev pub ReadsItems : {A : Type 0} → (ℕ → A) → Sort → List ℕ → ℕ → ℕ → Met
-    → Both (Bor (List A)) (Bor (List A)) → Listed → Type 0
+    → Both (MutBor (List A)) (MutBor (List A)) → Listed → Type 0
 ReadsItems f s text at n met cells r = ItemsRead f s text at n met cells.entry.now cells.exit.now r

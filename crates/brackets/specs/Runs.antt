@@ -1,6 +1,6 @@
 -- Items one after the other that stand in a text as they are written, and the items behind them. Definitions only.
 use Rattle.std.specs.Prelude.{◌≡◌, true, ◌&&◌, List, ◌++◌, map, ℕ, ◌+◌, ◌-◌, ◌≤◌, eqb, length, get_or, drop}
-use Rattle.std.specs.Borrow.{Bor}
+use Rattle.std.specs.Borrow.{MutBor}
 use denote.Triple.Both.{Both}
 use Rattle.std.proofs.lemmas.List.Edits.{sets}
 use Rattle.model.specs.Lists.{pick, foldl}
@@ -42,7 +42,7 @@ pub record RunRead {A : Type 0} (f : ℕ → A) (s : Sort) (text : List ℕ) (at
   pub run : RunStands s text at r.next r.count
   pub filled : (xs : List A) → sets left r.cell xs ≡ sets lent n (map f (front s text at r.count) ++ xs)
 
-abbrev pub Runs : {A : Type 0} → (ℕ → A) → Sort → List ℕ → ℕ → ℕ → Both (Bor (List A)) (Bor (List A)) → Run → Type 0
+abbrev pub Runs : {A : Type 0} → (ℕ → A) → Sort → List ℕ → ℕ → ℕ → Both (MutBor (List A)) (MutBor (List A)) → Run → Type 0
 Runs f s text at n cells r = RunRead f s text at n cells.entry.now cells.exit.now r
 
 -- how the text compares behind them, where it was compared from their place on or not at all
@@ -67,6 +67,6 @@ pub record RestRead {A : Type 0} (f : ℕ → A) (s : Sort) (text : List ℕ) (a
   pub few : at + r.count ≤ r.next + t.count
 
 abbrev pub ReadsRest : {A : Type 0} → (ℕ → A) → Sort → List ℕ → ℕ → ℕ → Met → Told
-    → Both (Bor (List A)) (Bor (List A)) → Listed → Type 0
+    → Both (MutBor (List A)) (MutBor (List A)) → Listed → Type 0
 ReadsRest f s text at n met t cells r =
     RestRead f s text at n (length text - t.count) met t cells.entry.now cells.exit.now r

@@ -1,5 +1,7 @@
 // Nested brackets in a text: words, names, lists of items. What is read is made of any text; beside it the text is
 // compared with the text of what was read.
+#![tactic(auto)]
+
 mod lists;
 mod meeting;
 mod reading;
@@ -10,21 +12,21 @@ pub use meeting::{judge, meet, meet_bytes, meet_item};
 pub use reading::{behind, name};
 
 // How far a text is the one that is expected, and whether nothing has departed yet.
-#[derive(Drop)]
+#[derive(Clone, Copy)]
 pub struct Met {
     pub at: usize,
     pub ok: bool,
 }
 
 // A word's value, and where the text goes on.
-#[derive(Drop)]
+#[derive(Clone, Copy)]
 pub struct Spelling {
     pub value: u64,
     pub next: usize,
 }
 
 // A list of items: how many, the first two, whether all are of their sort, where the text goes on, and how it compares.
-#[derive(Drop)]
+#[derive(Clone, Copy)]
 pub struct Listed {
     pub count: usize,
     pub first: u32,
@@ -35,7 +37,7 @@ pub struct Listed {
 }
 
 // An item behind a space, where the text goes on, and how it compares.
-#[derive(Drop)]
+#[derive(Clone, Copy)]
 struct Item {
     value: u32,
     next: usize,
@@ -43,7 +45,7 @@ struct Item {
 }
 
 // What has been told of the items read so far.
-#[derive(Drop)]
+#[derive(Clone, Copy)]
 struct Told {
     count: usize,
     first: u32,
@@ -52,7 +54,7 @@ struct Told {
 }
 
 // Items one after the other: how many, where the text goes on, and the cell behind them.
-#[derive(Drop)]
+#[derive(Clone, Copy)]
 struct Run {
     count: usize,
     next: usize,

@@ -1,4 +1,6 @@
 // The bake of one node, its outputs written in bytes.
+#![tactic(auto)]
+
 ghost use Rattle.std.specs.Prelude.{◌≡◌, take};
 ghost use Rattle.checks.specs.Drawn.{scene_lent};
 ghost use Rattle.bake.specs.Baked.{room};

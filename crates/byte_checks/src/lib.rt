@@ -1,4 +1,6 @@
 // What a scene in bytes draws, read from the bytes record by record, with no room to decode the scene into.
+#![tactic(auto)]
+
 mod calls;
 mod lines;
 mod numbers;

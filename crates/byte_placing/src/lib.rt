@@ -1,4 +1,6 @@
 // The placing from a given pose, its results written in bytes.
+#![tactic(auto)]
+
 ghost use Rattle.std.specs.Prelude.{◌*◌, ◌≤◌, length};
 ghost use Rattle.checks.specs.Drawn.{scene_lent};
 ghost use Rattle.byte_placing.specs.Placed.{placing_room, PlacedIn, WrittenBack};

@@ -1,5 +1,7 @@
 // What a call for the value of a track draws, of a table of floats in bytes, read from the bytes with no room to decode
 // into.
+#![tactic(auto)]
+
 ghost use Rattle.std.specs.Prelude.{◌≡◌};
 ghost use Rattle.model.specs.Limits.{weight_limit};
 ghost use Rattle.model.specs.Sampling.{in_line};

@@ -1,7 +1,7 @@
 -- What the tables of a lent scene draw: 1, 2, or 0 for neither, over all that is lent, used or not (docs/TABLES.md;
 -- scope, "Numbers when a piece is turned down"). The lowest number that applies is drawn. Definitions only.
 use Rattle.std.specs.Prelude.{◌≡◌, Bool, true, List, ℕ, zero, suc, ◌+◌, min, ltb, leb, Float, length}
-use Rattle.borrowed.specs.Slices.{Words, Floats}
+use Rattle.borrowed.specs.Slices.{SharedWords, SharedFloats}
 use Rattle.model.specs.Lists.{pick}
 use Rattle.model.specs.Limits.{node_limit, root_limit, channel_limit, child_entry_limit}
 use Rattle.model.specs.Refusals.{number, out_of_table, over_limit}
@@ -182,7 +182,7 @@ lent_as words floats node_weights mesh_weights h =
     record { words = words; floats = floats; node_weights = node_weights; mesh_weights = mesh_weights; header = h }
 
 -- the same of the slices that a call borrows
-abbrev pub scene_lent : Words → Floats → Floats → Floats → Header → Lent
+abbrev pub scene_lent : SharedWords → SharedFloats → SharedFloats → SharedFloats → Header → Lent
 scene_lent words floats node_weights mesh_weights h =
     lent_as words.entry.now floats.entry.now node_weights.entry.now mesh_weights.entry.now h
 

@@ -1,5 +1,7 @@
 // What the tables of a lent scene draw: 1 where a part leaves its table, 2 where a limit is passed, over all that is
 // lent, used or not. docs/TABLES.md has the layout and the limits.
+#![tactic(auto)]
+
 mod numbers;
 mod records;
 
@@ -10,7 +12,7 @@ pub use numbers::{
 pub use records::{lower, row_number, table_of};
 
 // The tables of records.
-#[derive(Drop)]
+#[derive(Clone, Copy)]
 pub enum Table {
     Nodes,
     Channels,

@@ -1,11 +1,13 @@
 // What was found beside what is right, which is handed in as bits: for the programs that replay lists of the Rust's
 // answers.
+#![tactic(auto)]
+
 ghost use Rattle.std.specs.Prelude.{◌≡◌};
 ghost use Rattle.comparing.specs.Near.{same_bits, near_by};
 ghost use Rattle.comparing.specs.Compared.{one_more, agreeing, of_lengths, compared, same_words, same_floats};
 
 // How many floats have equal bits, how many lie within what is allowed, and how many differ.
-#[derive(Drop)]
+#[derive(Clone, Copy)]
 pub struct Agreement {
     pub equal: u32,
     pub near: u32,

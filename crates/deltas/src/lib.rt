@@ -1,5 +1,7 @@
 // What morph targets add: their deltas, read from lent slices and added to others, and their in-betweens, read one by
 // one.
+#![tactic(auto)]
+
 use tables::Slot;
 
 mod adding;
@@ -11,7 +13,7 @@ pub use betweens::{has_valid, is_kept, station_at};
 pub use records::target_at;
 
 // An in-between that stands among 0 and 1, with its deltas.
-#[derive(Drop)]
+#[derive(Clone, Copy)]
 pub struct Station {
     pub weight: f32,
     pub positions: Slot,

@@ -1,4 +1,6 @@
 // The C functions on numbers, matrices and lent scenes; include/mesh3d.h declares them.
+#![tactic(auto)]
+
 mod inverses;
 mod leaves;
 mod lent;

@@ -1,4 +1,6 @@
 // The parent of every node, by the rule of graph.rs (`parents`).
+#![tactic(auto)]
+
 use refusals::SHORT_OUTPUT;
 
 mod walk;

@@ -1,5 +1,7 @@
 // The inverse of a matrix and the two normal matrices: `mat4_affine_inverse` of scene.rs, `linear_inverse_transpose` of
 // skinning.rs, and the normal matrix of transform.rs.
+#![tactic(auto)]
+
 ghost use Rattle.std.specs.Prelude.{◌≡◌, [], ◌∷◌, map};
 ghost use Rattle.std.specs.Float.Ieee.Scale.{finite};
 ghost use Rattle.float.specs.Narrow.{narrow_of};
@@ -85,7 +87,7 @@ pub fn linear_inverse_transpose(m: Mat4) -> Linear
 
 // ---- the inverse of an affine matrix, in f64
 
-#[derive(Drop)]
+#[derive(Clone, Copy)]
 struct WideVec {
     x: f64,
     y: f64,
@@ -93,7 +95,7 @@ struct WideVec {
 }
 
 // Nine numbers, row by row.
-#[derive(Drop)]
+#[derive(Clone, Copy)]
 struct Wide3 {
     m00: f64,
     m01: f64,

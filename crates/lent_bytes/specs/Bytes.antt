@@ -1,6 +1,6 @@
 -- A scene that is lent in bytes, and the room that it is decoded into. Definitions only.
 use Rattle.std.specs.Prelude.{Bool, ◌||◌, List, ◌++◌, ℕ, ◌+◌, ◌-◌, ◌/◌, ◌≤◌, ltb, Float, length, take, drop}
-use Rattle.borrowed.specs.Slices.{Words, Floats, Change}
+use Rattle.borrowed.specs.Slices.{SharedWords, Words, Floats, Change}
 use Rattle.model.specs.Lists.{pick, part}
 use Rattle.model.specs.Refusals.{number, short_scratch}
 use Rattle.wire.specs.Bytes.{words_in, floats_in}
@@ -16,7 +16,7 @@ lent_in words floats node_weights mesh_weights h =
     lent_as (words_in words) (floats_in floats) (floats_in node_weights) (floats_in mesh_weights) h
 
 -- of the slices that a call borrows
-abbrev pub bytes_lent : Words → Words → Words → Words → Header → Lent
+abbrev pub bytes_lent : SharedWords → SharedWords → SharedWords → SharedWords → Header → Lent
 bytes_lent words floats node_weights mesh_weights h =
     lent_in words.entry.now floats.entry.now node_weights.entry.now mesh_weights.entry.now h
 
@@ -65,7 +65,7 @@ pub record SceneBytes : Type 0 where
   pub node_weights : List ℕ
   pub mesh_weights : List ℕ
 
-abbrev pub scene_bytes : Words → Words → Words → Words → SceneBytes
+abbrev pub scene_bytes : SharedWords → SharedWords → SharedWords → SharedWords → SceneBytes
 scene_bytes words floats node_weights mesh_weights = record {
   words = words.entry.now;
   floats = floats.entry.now;

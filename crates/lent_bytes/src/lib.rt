@@ -1,4 +1,6 @@
 // What the C functions on scenes in bytes share: the room that a scene is decoded into.
+#![tactic(auto)]
+
 ghost use Rattle.std.specs.Prelude.{◌≡◌, ◌||◌, ◌+◌, ◌/◌, ◌≤◌, ltb, length};
 ghost use Rattle.model.specs.Lists.{pick};
 ghost use Rattle.model.specs.Refusals.{number, short_scratch};
@@ -28,7 +30,7 @@ pub fn count_of(a: &[u8], b: &[u8], c: &[u8]) -> usize
 }
 
 // Where each slice of a scene ends in the decoding room; the slices of floats stand one after the other.
-#[derive(Drop)]
+#[derive(Clone, Copy)]
 pub struct Ends {
     pub words: usize,
     pub floats: usize,

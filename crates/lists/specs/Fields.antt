@@ -2,7 +2,7 @@
 use Rattle.std.specs.Prelude.{◌≡◌, List, map, ℕ, ◌+◌, ◌≤◌, min, leb, Float, length, get_or, take, drop}
 use Rattle.float.specs.F32.{f32}
 use Rattle.model.specs.Lists.{pick, part}
-use Rattle.std.specs.Borrow.{Bor}
+use Rattle.std.specs.Borrow.{MutBor}
 use denote.Triple.Both.{Both}
 use Rattle.model.specs.Written.{Wrote}
 
@@ -42,7 +42,7 @@ pub record Put {A : Type 0} (lent left : List A) (n : ℕ) : Type 0 where
   pub rest : drop n left ≡ drop n lent
 
 -- in a slice that is borrowed
-abbrev pub Puts : {A : Type 0} → Both (Bor (List A)) (Bor (List A)) → ℕ → Type 0
+abbrev pub Puts : {A : Type 0} → Both (MutBor (List A)) (MutBor (List A)) → ℕ → Type 0
 Puts out n = Put out.entry.now out.exit.now n
 
 -- as many of these as there is room for
@@ -50,5 +50,5 @@ pub record Copied {A : Type 0} (entries lent left : List A) (n : ℕ) : Type 0 w
   pub counts : Counts n left
   pub wrote : Wrote entries lent left n
 
-abbrev pub Copies : {A : Type 0} → List A → Both (Bor (List A)) (Bor (List A)) → ℕ → Type 0
+abbrev pub Copies : {A : Type 0} → List A → Both (MutBor (List A)) (MutBor (List A)) → ℕ → Type 0
 Copies entries out n = Copied entries out.entry.now out.exit.now n

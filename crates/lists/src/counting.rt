@@ -3,7 +3,7 @@ ghost use Rattle.lists.specs.Tallies.{counted, all_same};
 
 use crate::Tally;
 use crate::printing::text;
-use libc::STDOUT_FILENO;
+use std::io;
 
 impl Tally {
     pub fn new() -> Self
@@ -34,12 +34,8 @@ impl Tally {
         (0 < self.seen) & (self.differ == 0)
     }
 
-    pub fn print(self, what: &[u8]) {
-        text(what);
-        text(b": ");
-        io::print_decimal(STDOUT_FILENO, self.seen as u64);
-        text(b" answers, ");
-        io::print_decimal(STDOUT_FILENO, self.differ as u64);
-        text(b" differ\n");
+    pub fn print(self, out: &impl Print, what: &[u8]) -> io::Result<()> {
+        text(out, what)?;
+        println!(out; ": {} answers, {} differ", self.seen, self.differ)
     }
 }

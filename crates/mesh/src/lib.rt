@@ -1,5 +1,7 @@
 // Morphed vertices, by the scope paper's rules: targets are added, one after the other, to positions, normals and
 // tangents that lie in lent flat slices.
+#![tactic(auto)]
+
 ghost use Rattle.borrowed.specs.InPlace.{InPlace};
 ghost use Rattle.model.specs.Morph.{with_targets};
 ghost use Rattle.model.specs.Attributes.{shape_of};
@@ -14,14 +16,14 @@ mod stations;
 mod targets;
 
 // Two neighbouring stations.
-#[derive(Drop)]
+#[derive(Clone, Copy)]
 pub struct Segment {
     pub low: Station,
     pub high: Station,
 }
 
 // What of all stations a weight takes: its segment, and how many entries the longest slots have.
-#[derive(Drop)]
+#[derive(Clone, Copy)]
 pub struct Blend {
     pub segment: Segment,
     pub positions: usize,

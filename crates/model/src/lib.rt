@@ -1,1 +1,2 @@
 // What is right: definitions alone, in specs/, and laws about them, in proofs/. There is no code.
+#![tactic(auto)]

@@ -1,10 +1,12 @@
 // Results that are copied into an output.
+#![tactic(auto)]
+
 ghost use Rattle.outputs.specs.Output.{CopiesOut};
 
 use refusals::SHORT_OUTPUT;
 
 // A refusal number, or 0, and how many floats were copied.
-#[derive(Drop)]
+#[derive(Clone, Copy)]
 pub struct Copied {
     pub number: u32,
     pub count: usize,

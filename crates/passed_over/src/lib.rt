@@ -1,4 +1,6 @@
 // The first channel that a pose passes over, and why: such a channel changes nothing, and draws no number.
+#![tactic(auto)]
+
 mod calls;
 mod reasons;
 
@@ -15,7 +17,7 @@ pub const NO_LENGTH: u32 = 4;
 
 // The refusal number of the pose, or 0; the reason, or 0 where no channel is passed over; and the channel.
 #[repr(C)]
-#[derive(Drop)]
+#[derive(Clone, Copy)]
 pub struct PassedOver {
     pub number: u32,
     pub reason: u32,

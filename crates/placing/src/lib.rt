@@ -1,6 +1,8 @@
 // The placing of the nodes without their matrices: which node is placed under which, in what order, and how many
 // entries are taken. The room `walk` holds a stack of entries, two words each: an id, and the code of the place it is
 // listed for.
+#![tactic(auto)]
+
 ghost use Rattle.std.specs.Prelude.{◌≡◌, ◌+◌, ◌*◌, ◌≤◌, ◌<◌, length};
 ghost use Rattle.borrowed.specs.Slices.{change};
 ghost use Rattle.model.specs.Limits.{node_limit};
@@ -12,14 +14,14 @@ use refusals::NODE_LIMIT;
 use tables::Graph;
 
 // How many entries were taken, and how many nodes were placed.
-#[derive(Drop)]
+#[derive(Clone, Copy)]
 pub struct Run {
     pub taken: usize,
     pub placed: usize,
 }
 
 // The entries on the stack, and the nodes that are placed.
-#[derive(Drop)]
+#[derive(Clone, Copy)]
 struct Heights {
     top: usize,
     placed: usize,

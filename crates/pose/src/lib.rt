@@ -1,4 +1,6 @@
 // The pose of every node at a time: the port of pose.rs.
+#![tactic(auto)]
+
 mod calls;
 mod lines;
 mod sampler;

@@ -17,7 +17,7 @@ use tables::ChannelRow;
 use tracks::Part;
 
 // What a slot holds.
-#[derive(Drop)]
+#[derive(Clone, Copy)]
 struct Slot {
     pose: NodePose,
     word: u32,

@@ -1,4 +1,6 @@
 // The pose of one node: in its slot, over its base transform, and what a channel gives it.
+#![tactic(auto)]
+
 use scene::{Quat, Vec3};
 
 mod gifts;
@@ -10,7 +12,7 @@ pub use overlay::local_transform;
 pub use slots::{at_rest, pose_at, store_pose};
 
 // What is posed of a node, with marks for what is there; its morph weights are not held.
-#[derive(Drop)]
+#[derive(Clone, Copy)]
 pub struct NodePose {
     pub has_translation: bool,
     pub translation: Vec3,
@@ -21,7 +23,7 @@ pub struct NodePose {
 }
 
 // What a channel gives the pose of its node. Weights stay where they are sampled.
-#[derive(Drop)]
+#[derive(Clone, Copy)]
 pub enum Gift {
     Translation(Vec3),
     Rotation(Quat),

@@ -1,4 +1,6 @@
 // Baked positions and refusal numbers put into an output as they are printed.
+#![tactic(auto)]
+
 ghost use Rattle.std.specs.Prelude.{◌≡◌, [], ◌∷◌, ◌++◌, drop};
 ghost use Rattle.spelling.specs.Pushed.{Puts};
 ghost use Rattle.printing.specs.Lines.{vertex_text, vertices_text, number_text};

@@ -1,5 +1,6 @@
 // The refusal numbers and the limits of the scope's table, as constants. crates/model/specs/Refusals.antt and
 // Limits.antt have the same for the contracts.
+#![tactic(auto)]
 
 // Short stock: an offset or count leaves its table.
 pub const OUT_OF_TABLE: u32 = 1;

@@ -3,11 +3,14 @@
 // root, n: a narrowing, w: a turn weight (8 digits v, 8 digits c), within 2^-19 of the weight that slerp used. The
 // last line of the output is OK where the input is so many lines, every kind was seen and nothing differs, and FAILED
 // otherwise.
+#![tactic(auto)]
+
 ghost use Rattle.std.specs.Prelude.{◌≡◌};
 ghost use Rattle.replay.specs.Lines.{is_line, root_is, narrowed_is, weight_is_near};
 
-use libc::STDIN_FILENO;
 use lists::{TURN_GAP, Tally};
+use std::io;
+use std::io::Read;
 
 // How many lines the list has.
 const LINES: u32 = 5000;
@@ -48,7 +51,7 @@ fn letter_of(line: &[u8; 28]) -> u8 {
 }
 
 // What was seen so far, by kind of line.
-#[derive(Drop)]
+#[derive(Clone, Copy)]
 struct Report {
     roots: Tally,
     narrowed: Tally,
@@ -87,37 +90,39 @@ impl Report {
     }
 
     // Answers whether every kind was seen, no answer differs and no line is unknown.
-    fn print(self) -> bool {
+    fn print(self, out: &impl Print) -> io::Result<bool> {
         let roots = self.roots;
-        roots.print(b"square roots");
+        roots.print(out, b"square roots")?;
         let narrowed = self.narrowed;
-        narrowed.print(b"narrowings");
+        narrowed.print(out, b"narrowings")?;
         let weights = self.weights;
-        weights.print(b"turn weights");
+        weights.print(out, b"turn weights")?;
         let unknown = self.unknown;
-        unknown.print(b"unknown lines");
-        roots.all_same() & narrowed.all_same() & weights.all_same() & (unknown.seen == 0)
+        unknown.print(out, b"unknown lines")?;
+        Ok(roots.all_same() & narrowed.all_same() & weights.all_same() & (unknown.seen == 0))
     }
 }
 
 // Reads a line, and answers how many of its bytes there were.
-fn read_line(line: &mut [u8; 28]) -> usize {
-    io::read_full(STDIN_FILENO, line)
+fn read_line<R: Read>(input: &mut R, line: &mut [u8; 28]) -> io::Result<usize> {
+    lists::read_full(input, line)
 }
 
-fn main() {
+fn main(rt: HostRuntime) -> io::Result<()> {
+    let mut input = rt.stdin();
+    let out = rt.stdout();
     let mut report = Report::new();
     let mut line = [0u8; 28];
-    let mut count = read_line(&mut line);
+    let mut count = read_line(&mut input, &mut line)?;
     let mut left = LINES;
     while 0 < left {
         if count != 28 {
             break;
         }
         report = report.with(&line);
-        count = read_line(&mut line);
+        count = read_line(&mut input, &mut line)?;
         left -= 1;
     }
-    let good = report.print();
-    lists::print_verdict(good & (left == 0) & (count == 0));
+    let good = report.print(&out)?;
+    lists::print_verdict(&out, good & (left == 0) & (count == 0))
 }

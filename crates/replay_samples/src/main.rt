@@ -2,12 +2,15 @@
 // format is said in harness/compare/src/sampling/list.rs) through `animation::sample`, and counts the answers that
 // differ: in a bit or, of a Linear turn, by more than 2^-19. A line has 41 fields. The last line of the output is OK
 // where the input is so many lines, every kind of answer was seen and nothing differs, and FAILED otherwise.
+#![tactic(auto)]
+
 ghost use Rattle.std.specs.Prelude.{◌≡◌};
 ghost use Rattle.replay_samples.specs.Same.{same_answer};
 
 use animation::SampledValue;
 use comparing::is_near;
 use lists::{TURN_GAP, Tally, field, field_behind};
+use std::io;
 use tracks::{Interpolation, Kind, Part, Track};
 
 // How many fields the list has, 576 lines.
@@ -69,7 +72,7 @@ fn track(fields: &[u32], at: usize) -> Track {
 }
 
 // A number of refusal, or 0, how many numbers there are, and these with zeros behind them.
-#[derive(Drop)]
+#[derive(Clone, Copy)]
 struct Answer {
     number: u32,
     count: usize,
@@ -142,7 +145,7 @@ fn allowed(kind: u32, interpolation: u32) -> f64 {
 }
 
 // What was seen so far: by kind, and where the Rust has None.
-#[derive(Drop)]
+#[derive(Clone, Copy)]
 struct Report {
     vectors: Tally,
     turns: Tally,
@@ -182,34 +185,37 @@ impl Report {
     }
 
     // Answers whether every kind was seen, and no answer differs.
-    fn print(self) -> bool {
+    fn print(self, out: &impl Print) -> io::Result<bool> {
         let vectors = self.vectors;
-        vectors.print(b"Vec3 samples");
+        vectors.print(out, b"Vec3 samples")?;
         let turns = self.turns;
-        turns.print(b"Quat samples");
+        turns.print(out, b"Quat samples")?;
         let weights = self.weights;
-        weights.print(b"weights");
+        weights.print(out, b"weights")?;
         let none = self.none;
-        none.print(b"uneven tracks");
-        vectors.all_same() & turns.all_same() & weights.all_same() & none.all_same()
+        none.print(out, b"uneven tracks")?;
+        Ok(vectors.all_same() & turns.all_same() & weights.all_same() & none.all_same())
     }
 }
 
 // Answers whether the fields are the whole list, and nothing differs.
-fn replay(fields: &[u32]) -> bool {
+fn replay(out: &impl Print, fields: &[u32]) -> io::Result<bool> {
     let mut report = Report::new();
     let mut at = 0;
     while at < fields.len() {
         report = report.with(fields, at);
         at = lists::ahead(fields, at, 41);
     }
-    report.print() & (at == FIELDS)
+    let good = report.print(out)?;
+    Ok(good & (at == FIELDS))
 }
 
-fn main() {
+fn main(rt: HostRuntime) -> io::Result<()> {
+    let mut input = rt.stdin();
+    let out = rt.stdout();
     let mut fields = [0u32; 32_768];
-    let input = lists::read_fields(&mut fields);
-    let n = input.count;
-    let good = replay(&fields[..n]);
-    lists::print_verdict(input.whole & good);
+    let read = lists::read_fields(&mut input, &mut fields)?;
+    let n = read.count;
+    let good = replay(&out, &fields[..n])?;
+    lists::print_verdict(&out, read.whole & good)
 }

@@ -2,6 +2,8 @@
 // `harness/run list scenes > crates/replay_scenes/stdin` makes it, and harness/compare/src/list/scenes.rs says the
 // format. The last line is OK where the input is whole, every call was seen and nothing differs, and FAILED
 // otherwise.
+#![tactic(auto)]
+
 mod calls;
 mod nodes;
 mod skins;
@@ -9,10 +11,11 @@ mod told;
 mod vertices;
 
 use lists::{Checked, Tally};
+use std::io;
 use tables::Header;
 
 // What was seen so far of each call, and of calls that are not known, and the place of the next field.
-#[derive(Drop)]
+#[derive(Clone, Copy)]
 struct Report {
     tallies: [Tally; 11],
     at: usize,
@@ -36,42 +39,42 @@ impl Report {
     }
 
     // Answers whether the call was seen, and no answer differs.
-    fn print_call(self, what: &[u8], call: usize) -> bool {
+    fn print_call(self, out: &impl Print, what: &[u8], call: usize) -> io::Result<bool> {
         let tallies = self.tallies;
         let tally = tallies[call % 11];
-        tally.print(what);
-        tally.all_same()
+        tally.print(out, what)?;
+        Ok(tally.all_same())
     }
 
-    fn print_nodes(self) -> bool {
-        let parents = self.print_call(b"parents", 0);
-        let pose = self.print_call(b"sample_pose", 1);
-        let places = self.print_call(b"posed_node_transforms", 2);
-        parents & pose & places
+    fn print_nodes(self, out: &impl Print) -> io::Result<bool> {
+        let parents = self.print_call(out, b"parents", 0)?;
+        let pose = self.print_call(out, b"sample_pose", 1)?;
+        let places = self.print_call(out, b"posed_node_transforms", 2)?;
+        Ok(parents & pose & places)
     }
 
-    fn print_skins(self) -> bool {
-        let palettes = self.print_call(b"joint_matrices_with", 3);
-        let roots = self.print_call(b"skin_root", 4);
-        let weights = self.print_call(b"effective_morph_weights", 5);
-        let bakes = self.print_call(b"world_mesh_at", 6);
-        palettes & roots & weights & bakes
+    fn print_skins(self, out: &impl Print) -> io::Result<bool> {
+        let palettes = self.print_call(out, b"joint_matrices_with", 3)?;
+        let roots = self.print_call(out, b"skin_root", 4)?;
+        let weights = self.print_call(out, b"effective_morph_weights", 5)?;
+        let bakes = self.print_call(out, b"world_mesh_at", 6)?;
+        Ok(palettes & roots & weights & bakes)
     }
 
-    fn print_vertices(self) -> bool {
-        let transformed = self.print_call(b"transformed", 7);
-        let skinned = self.print_call(b"skinned", 8);
-        let morphed = self.print_call(b"morphed", 9);
-        transformed & skinned & morphed
+    fn print_vertices(self, out: &impl Print) -> io::Result<bool> {
+        let transformed = self.print_call(out, b"transformed", 7)?;
+        let skinned = self.print_call(out, b"skinned", 8)?;
+        let morphed = self.print_call(out, b"morphed", 9)?;
+        Ok(transformed & skinned & morphed)
     }
 
     // Answers whether every call was seen, and no answer differs.
-    fn print(self) -> bool {
-        let nodes = self.print_nodes();
-        let skins = self.print_skins();
-        let vertices = self.print_vertices();
-        self.print_call(b"unknown calls", 10);
-        nodes & skins & vertices
+    fn print(self, out: &impl Print) -> io::Result<bool> {
+        let nodes = self.print_nodes(out)?;
+        let skins = self.print_skins(out)?;
+        let vertices = self.print_vertices(out)?;
+        self.print_call(out, b"unknown calls", 10)?;
+        Ok(nodes & skins & vertices)
     }
 }
 
@@ -134,7 +137,7 @@ fn replay_scene(fields: &[u32], so_far: Report) -> Report {
 }
 
 // Answers whether the fields hold so many scenes as the first one says and nothing else, and nothing differs.
-fn replay(fields: &[u32]) -> bool {
+fn replay(out: &impl Print, fields: &[u32]) -> io::Result<bool> {
     let mut report = Report::new();
     report.at = lists::ahead(fields, 0, 1);
     let mut left = lists::field(fields, 0);
@@ -145,13 +148,16 @@ fn replay(fields: &[u32]) -> bool {
         report = replay_scene(fields, report);
         left -= 1;
     }
-    report.print() & (report.at == fields.len())
+    let good = report.print(out)?;
+    Ok(good & (report.at == fields.len()))
 }
 
-fn main() {
+fn main(rt: HostRuntime) -> io::Result<()> {
+    let mut input = rt.stdin();
+    let out = rt.stdout();
     let mut fields = [0u32; 140_000];
-    let input = lists::read_fields(&mut fields);
-    let n = input.count;
-    let good = replay(&fields[..n]);
-    lists::print_verdict(input.whole & good);
+    let read = lists::read_fields(&mut input, &mut fields)?;
+    let n = read.count;
+    let good = replay(&out, &fields[..n])?;
+    lists::print_verdict(&out, read.whole & good)
 }

@@ -1,5 +1,7 @@
 // The C functions that tell where the tables of a scene are at fault, and which channels a pose passes over;
 // include/mesh3d.h declares them.
+#![tactic(auto)]
+
 ghost use Rattle.std.specs.Prelude.{◌≡◌};
 ghost use Rattle.checks.specs.Drawn.{scene_lent};
 ghost use Rattle.faults.specs.Faults.{fault_of};

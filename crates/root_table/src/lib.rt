@@ -1,10 +1,12 @@
 // A quadratic near the square root for each of 256 pieces, numbered from 256: the exponent's last digit and the first
 // seven of the significand choose the piece. The numbers are free: nothing is promised of them but that what is worked
 // out with them fits, since whoever uses them tests the result.
+#![tactic(auto)]
+
 ghost use Rattle.std.specs.Prelude.{◌^◌, ◌≤◌, ◌<◌};
 
 // Base, slope and bend: base + slope * d - bend * d * d, where d counts from the start of the piece.
-#[derive(Drop)]
+#[derive(Clone, Copy)]
 pub struct Quadratic(pub u64, pub u64, pub u64);
 
 // One `match` is compiled to constant memory: a `const` array would be written anew, entry by entry, at each call. The

@@ -1,5 +1,7 @@
 // What is asked of one record of a lent scene: that its parts lie in their tables, and that it is within its limits.
 // docs/TABLES.md has the layout and the limits.
+#![tactic(auto)]
+
 mod limits;
 mod places;
 
@@ -12,7 +14,7 @@ pub use places::{
 };
 
 // The lengths of what parts may lie in: slices, and tables whose records are listed by others.
-#[derive(Drop)]
+#[derive(Clone, Copy)]
 pub struct Sizes {
     pub words: usize,
     pub floats: usize,

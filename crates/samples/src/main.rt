@@ -2,13 +2,16 @@
 // what the Rust gave. Scenes and answers stand in stdin, which `harness/run list published > crates/samples/stdin`
 // makes; harness/compare/src/list/published.rs says the format. The last line is OK where the input is whole and
 // nothing differs, and FAILED otherwise.
+#![tactic(auto)]
+
 mod bakes;
 
 use lists::{Tally, text};
+use std::io;
 use tables::Header;
 
 // The bakes so far, and the place of the next field.
-#[derive(Drop)]
+#[derive(Clone, Copy)]
 struct Report {
     tally: Tally,
     at: usize,
@@ -16,6 +19,7 @@ struct Report {
 
 // So many bakes of a scene as the next field says.
 fn replay_bakes<'a>(
+    out: &impl Print,
     fields: &[u32],
     at: usize,
     words: &[u32],
@@ -24,7 +28,7 @@ fn replay_bakes<'a>(
     mesh_weights: &'a [f32],
     h: Header,
     so_far: Tally,
-) -> Report {
+) -> io::Result<Report> {
     let mut tally = so_far;
     let mut next = lists::ahead(fields, at, 1);
     let mut left = lists::field(fields, at);
@@ -32,18 +36,32 @@ fn replay_bakes<'a>(
         if fields.len() < next {
             break;
         }
-        let checked = bakes::replay(fields, next, words, floats, node_weights, mesh_weights, h);
+        let checked = bakes::replay(
+            out,
+            fields,
+            next,
+            words,
+            floats,
+            node_weights,
+            mesh_weights,
+            h,
+        )?;
         tally = tally.with(checked.same);
         next = checked.at;
         left -= 1;
     }
-    Report { tally, at: next }
+    Ok(Report { tally, at: next })
 }
 
 // A scene of up to 2,048 floats and 16 weights of each sort, and its bakes.
-fn replay_sample(fields: &[u32], name: &[u8], so_far: Report) -> Report {
-    text(name);
-    text(b"\n");
+fn replay_sample(
+    out: &impl Print,
+    fields: &[u32],
+    name: &[u8],
+    so_far: Report,
+) -> io::Result<Report> {
+    text(out, name)?;
+    text(out, b"\n")?;
     let mut floats = [0.0f32; 2048];
     let mut node_weights = [0.0f32; 16];
     let mut mesh_weights = [0.0f32; 16];
@@ -54,6 +72,7 @@ fn replay_sample(fields: &[u32], name: &[u8], so_far: Report) -> Report {
     let m = lists::read_floats(fields, places.mesh_weights, &mut mesh_weights);
     let tally = so_far.tally;
     replay_bakes(
+        out,
         fields,
         places.end,
         lists::list_at(fields, places.words),
@@ -66,19 +85,22 @@ fn replay_sample(fields: &[u32], name: &[u8], so_far: Report) -> Report {
 }
 
 // Answers whether the fields hold both samples and nothing else, and nothing differs.
-fn replay(fields: &[u32]) -> bool {
+fn replay(out: &impl Print, fields: &[u32]) -> io::Result<bool> {
     let none = Tally::new();
-    let skin = replay_sample(fields, b"simple_skin", Report { tally: none, at: 0 });
-    let all = replay_sample(fields, b"AnimatedMorphCube", skin);
+    let first = Report { tally: none, at: 0 };
+    let skin = replay_sample(out, fields, b"simple_skin", first)?;
+    let all = replay_sample(out, fields, b"AnimatedMorphCube", skin)?;
     let tally = all.tally;
-    tally.print(b"bakes");
-    tally.all_same() & (all.at == fields.len())
+    tally.print(out, b"bakes")?;
+    Ok(tally.all_same() & (all.at == fields.len()))
 }
 
-fn main() {
+fn main(rt: HostRuntime) -> io::Result<()> {
+    let mut input = rt.stdin();
+    let out = rt.stdout();
     let mut fields = [0u32; 8192];
-    let input = lists::read_fields(&mut fields);
-    let n = input.count;
-    let good = replay(&fields[..n]);
-    lists::print_verdict(input.whole & good);
+    let read = lists::read_fields(&mut input, &mut fields)?;
+    let n = read.count;
+    let good = replay(&out, &fields[..n])?;
+    lists::print_verdict(&out, read.whole & good)
 }

@@ -1,5 +1,7 @@
 // Matrices, quaternions and transforms: the port of scene.rs's transforms, and of the small matrix functions of
 // skinning.rs and transform.rs. Matrices are row by row, the translation in the fourth column.
+#![tactic(auto)]
+
 mod matrices;
 mod transforms;
 mod vectors;
@@ -13,14 +15,14 @@ pub use transforms::{
 };
 pub use vectors::{mul3, normalize3, vec3_len};
 
-#[derive(Drop)]
+#[derive(Clone, Copy)]
 pub struct Vec3 {
     pub x: f32,
     pub y: f32,
     pub z: f32,
 }
 
-#[derive(Drop)]
+#[derive(Clone, Copy)]
 pub struct Quat {
     pub x: f32,
     pub y: f32,
@@ -29,13 +31,13 @@ pub struct Quat {
 }
 
 // Sixteen numbers, row by row.
-#[derive(Drop)]
+#[derive(Clone, Copy)]
 pub struct Mat4 {
     pub m: [f32; 16],
 }
 
 // A linear part by its entries: row, column.
-#[derive(Drop)]
+#[derive(Clone, Copy)]
 pub struct Mat3 {
     pub m00: f32,
     pub m01: f32,
@@ -48,7 +50,7 @@ pub struct Mat3 {
     pub m22: f32,
 }
 
-#[derive(Drop)]
+#[derive(Clone, Copy)]
 pub struct Trs {
     pub translation: Vec3,
     pub rotation: Quat,
@@ -56,7 +58,7 @@ pub struct Trs {
 }
 
 // A matrix by its entries, for places that hold no array.
-#[derive(Drop)]
+#[derive(Clone, Copy)]
 pub struct Entries {
     pub m00: f32,
     pub m01: f32,
@@ -77,28 +79,28 @@ pub struct Entries {
 }
 
 // A node's base transform.
-#[derive(Drop)]
+#[derive(Clone, Copy)]
 pub enum Transform {
     Trs(Trs),
     Matrix(Entries),
 }
 
 // A direction of length 1, or none where there is no length to divide by.
-#[derive(Drop)]
+#[derive(Clone, Copy)]
 pub enum Direction {
     Unit(Vec3),
     None,
 }
 
 // The matrix that turns normals, or none where there is no inverse.
-#[derive(Drop)]
+#[derive(Clone, Copy)]
 pub enum Linear {
     Of(Mat3),
     None,
 }
 
 // An inverse, or none where there is none.
-#[derive(Drop)]
+#[derive(Clone, Copy)]
 pub enum Inverse {
     Of(Entries),
     None,

@@ -20,7 +20,7 @@ pub fn identity() -> Mat4
 }
 
 // Four numbers of a matrix, from left to right.
-#[derive(Drop)]
+#[derive(Clone, Copy)]
 struct Row {
     x: f32,
     y: f32,
@@ -28,7 +28,7 @@ struct Row {
     w: f32,
 }
 
-#[derive(Drop)]
+#[derive(Clone, Copy)]
 struct Rows {
     a: Row,
     b: Row,

@@ -201,7 +201,7 @@ pub fn rot_matrix_to_quat(a: Vec3, b: Vec3, c: Vec3) -> Quat
 }
 
 // A column of a matrix: its length, and it with that taken out.
-#[derive(Drop)]
+#[derive(Clone, Copy)]
 struct Axis {
     length: f32,
     direction: Vec3,

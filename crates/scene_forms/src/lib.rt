@@ -1,6 +1,8 @@
 // The forms of a scene's text, read into the tables of a lent scene: all items of a table one behind the other, and the
 // record of each form. A function puts what it reads from a place on, as far as there is room, and answers the place
 // behind it, so that the same measures and fills. What is made of a text that has no reading does not matter.
+#![tactic(auto)]
+
 use brackets::Met;
 use scene_marks::Mark;
 
@@ -10,7 +12,7 @@ mod forms;
 pub use forms::document;
 
 // How many items stand in each table.
-#[derive(Drop)]
+#[derive(Clone, Copy)]
 pub struct Counts {
     pub ids: usize,
     pub floats: usize,
@@ -19,7 +21,7 @@ pub struct Counts {
 }
 
 // What the scene form asks for: a node, the bits of a time; and where the roots are among the ids.
-#[derive(Drop)]
+#[derive(Clone, Copy)]
 pub struct Request {
     pub node: usize,
     pub time: usize,
@@ -29,7 +31,7 @@ pub struct Request {
 
 // Inside a form: where the text goes on, how many items there are, how the text compares, and the first field or form
 // that does not have its shape.
-#[derive(Drop)]
+#[derive(Clone, Copy)]
 struct Spot {
     next: usize,
     counts: Counts,
@@ -38,21 +40,21 @@ struct Spot {
 }
 
 // A field, and where the text goes on behind it.
-#[derive(Drop)]
+#[derive(Clone, Copy)]
 struct Entry {
     spot: Spot,
     mark: Mark,
 }
 
 // The fields of a form in numbers, five for each slot, and where the text goes on behind them.
-#[derive(Drop)]
+#[derive(Clone, Copy)]
 struct Row {
     spot: Spot,
     marks: [usize; 80],
 }
 
 // Between forms: the same, the place of the next record, how far the lists of records reach, and what is asked for.
-#[derive(Drop)]
+#[derive(Clone, Copy)]
 pub struct Place {
     pub next: usize,
     pub counts: Counts,
@@ -64,14 +66,14 @@ pub struct Place {
 }
 
 // The place behind the forms of a kind, and how many they are.
-#[derive(Drop)]
+#[derive(Clone, Copy)]
 struct Block {
     place: Place,
     count: usize,
 }
 
 // What was made of a text: the place behind it, how many forms there are of each kind, and how far their lists reach.
-#[derive(Drop)]
+#[derive(Clone, Copy)]
 pub struct Found {
     pub place: Place,
     pub counts: [usize; 9],

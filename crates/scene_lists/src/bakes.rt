@@ -162,7 +162,7 @@ fn bake_asked<'a>(
     )
 }
 
-#[derive(Drop)]
+#[derive(Clone, Copy)]
 struct Compared {
     answer: Answer,
     told: bool,

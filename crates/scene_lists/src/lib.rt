@@ -1,5 +1,7 @@
 // Scenes and bakes in lists, for the programs that replay the Rust's answers on a scene. They stand in fields, as
 // harness/compare/src/list/fields.rs says it.
+#![tactic(auto)]
+
 mod bakes;
 mod headers;
 mod scenes;
@@ -11,7 +13,7 @@ pub use headers::header_at;
 pub use scenes::places_at;
 
 // Where the lists of a scene stand, and what is behind them.
-#[derive(Drop)]
+#[derive(Clone, Copy)]
 pub struct Places {
     pub words: usize,
     pub floats: usize,
@@ -21,7 +23,7 @@ pub struct Places {
 }
 
 // What a bake is asked for: the node, the time, and how far a float may lie from the Rust's.
-#[derive(Drop)]
+#[derive(Clone, Copy)]
 pub(crate) struct Asked {
     node: u32,
     time: f32,
@@ -30,7 +32,7 @@ pub(crate) struct Asked {
 
 // How a bake went: what it answered, whether that is the Rust's answer, how the floats that it left agree, the first
 // two outputs, and the place behind the bake.
-#[derive(Drop)]
+#[derive(Clone, Copy)]
 pub struct Outcome {
     pub time: f32,
     pub answer: Answer,

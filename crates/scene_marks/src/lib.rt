@@ -1,6 +1,8 @@
 // The fields of a form in numbers, five for each slot: whether it is there, where its items start in their table, how
 // many they are, and the first two. From these are made the words of a record, and it is told whether the form has the
 // fields that are asked of it.
+#![tactic(auto)]
+
 ghost use Rattle.std.specs.Prelude.{◌≡◌, ◌+◌, ◌*◌, ◌/◌, ◌%◌, ◌≤◌, ◌<◌, get_or, set};
 ghost use Rattle.std.proofs.lemmas.List.Edits.{sets};
 ghost use Rattle.scene_schema.specs.Layout.{layout};
@@ -12,7 +14,7 @@ ghost use Rattle.scene_marks.specs.Marks.{group_at, groups_of};
 use scene_schema::Source;
 
 // A field: whether it is there, where its items start in their table, how many they are, and the first two.
-#[derive(Drop)]
+#[derive(Clone, Copy)]
 pub struct Mark {
     pub there: usize,
     pub start: usize,

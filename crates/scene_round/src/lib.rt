@@ -1,1 +1,2 @@
 // A scene written and read back: laws alone, in proofs/. There is no code.
+#![tactic(auto)]

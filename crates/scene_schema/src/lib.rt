@@ -1,5 +1,7 @@
 // The forms of a scene's text (docs/TEXT.md): their names, what is asked of their fields, and the records that are made
 // of them.
+#![tactic(auto)]
+
 mod names;
 mod rows;
 mod rules;
@@ -9,7 +11,7 @@ pub use rows::{cell, stride, word_source};
 pub use rules::{group, slot_rule};
 
 // A title or a name: what it is told by, and its letters, the first eight and the others, the first one lowest.
-#[derive(Drop)]
+#[derive(Clone, Copy)]
 pub struct Name {
     pub code: u64,
     pub letters: u8,
@@ -19,7 +21,7 @@ pub struct Name {
 
 // Where the items of a field go: a number or the bits of a float to no table, ids to `words`, others to one of the
 // three slices of floats.
-#[derive(Drop)]
+#[derive(Clone, Copy)]
 pub enum Pool {
     Number,
     Bits,
@@ -31,7 +33,7 @@ pub enum Pool {
 
 // What is asked of a field: just so many items, or entries of so many; of how many slots from it on one is there, or 0;
 // and where the items go.
-#[derive(Drop)]
+#[derive(Clone, Copy)]
 pub struct Rule {
     pub fixed: bool,
     pub width: u8,
@@ -41,7 +43,7 @@ pub struct Rule {
 
 // Where a word of a record is taken from. Of a slot and so many more behind it one is there: its number among them,
 // where its items start, how many entries they are. Of one slot, its mark, its first or its second item.
-#[derive(Drop)]
+#[derive(Clone, Copy)]
 pub enum Source {
     Nothing,
     Tag(u8, u8),

@@ -1,5 +1,7 @@
 // The forms of a lent scene put into an output of bytes, one for each record (docs/TEXT.md). Each function answers the
 // place behind what it put; it stands still one past the end.
+#![tactic(auto)]
+
 mod fields;
 mod forms;
 

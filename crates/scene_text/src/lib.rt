@@ -1,4 +1,6 @@
 // Scenes as bracketed text (docs/TEXT.md), read into the tables of a lent scene.
+#![tactic(auto)]
+
 use tables::Header;
 
 mod breaks;
@@ -9,7 +11,7 @@ pub use tables_read::{read_scene, text_room};
 
 // A refusal number, or 0; and the scene that was read: where its tables lie, and the node and the time asked for.
 #[repr(C)]
-#[derive(Drop)]
+#[derive(Clone, Copy)]
 pub struct Reading {
     pub number: u32,
     pub header: Header,
@@ -19,7 +21,7 @@ pub struct Reading {
 
 // A refusal number, or 0; and how long the tables of the scene are.
 #[repr(C)]
-#[derive(Drop)]
+#[derive(Clone, Copy)]
 pub struct Needed {
     pub number: u32,
     pub words: usize,
@@ -30,7 +32,7 @@ pub struct Needed {
 
 // A refusal number, or 0; and the place at which the text breaks.
 #[repr(C)]
-#[derive(Drop)]
+#[derive(Clone, Copy)]
 pub struct Break {
     pub number: u32,
     pub at: usize,

@@ -1,4 +1,6 @@
 // A lent scene written as bracketed text (docs/TEXT.md), with the node and the time that are asked for.
+#![tactic(auto)]
+
 ghost use Rattle.std.specs.Prelude.{◌≡◌, suc, ◌<◌};
 ghost use Rattle.borrowed.specs.Slices.{Words, Floats};
 ghost use Rattle.checks.specs.Drawn.{scene_lent};
@@ -14,7 +16,7 @@ use tracks::Part;
 
 // A refusal number, or 0, and how many bytes the text has.
 #[repr(C)]
-#[derive(Drop)]
+#[derive(Clone, Copy)]
 pub struct Written {
     pub number: u32,
     pub length: usize,

@@ -3,7 +3,7 @@
 use Rattle.std.specs.Prelude.{◌≡◌, List, [], map, Bool, true, ℕ, ◌+◌, ◌*◌, ◌≤◌, ◌<◌, Float, length}
 use Rattle.std.proofs.Math.Option.{Option, none, some}
 use Rattle.std.proofs.Math.Seq.{paste}
-use Rattle.borrowed.specs.Slices.{Words, Floats}
+use Rattle.borrowed.specs.Slices.{SharedWords, SharedFloats, Floats}
 use Rattle.model.specs.Limits.{primitive_limit}
 use Rattle.model.specs.Lists.{pick, joined, rows_in}
 use Rattle.model.specs.Matrix.{Matrix}
@@ -60,13 +60,13 @@ abbrev pub primitives_in : Lent → Part → List scene.Primitive
 primitives_in l m = records_in (λ i. primitive_of l (primitive_row l.words l.header.meshes.primitives i)) m
 
 -- a primitive that is blended with weights, and placed by a world and a palette, if there is one
-abbrev pub baked_as : Words → Floats → Header → PrimitiveRow → Floats → Matrix → Bool → Floats → Shape
+abbrev pub baked_as : SharedWords → SharedFloats → Header → PrimitiveRow → SharedFloats → Matrix → Bool → SharedFloats → Shape
 baked_as words floats h row weights world there palette =
     baked_primitive world (palette_in there palette.entry.now) weights.entry.now
     (primitive_of (lent_as words.entry.now floats.entry.now [] [] h) row)
 
 -- all primitives of a mesh
-abbrev pub baked_mesh : Words → Floats → Header → Part → Floats → Matrix → Bool → Floats → Output
+abbrev pub baked_mesh : SharedWords → SharedFloats → Header → Part → SharedFloats → Matrix → Bool → SharedFloats → Output
 baked_mesh words floats h m weights world there palette =
     output_of (map (baked_primitive world (palette_in there palette.entry.now) weights.entry.now)
     (primitives_in (lent_as words.entry.now floats.entry.now [] [] h) m))

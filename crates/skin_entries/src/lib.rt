@@ -1,4 +1,6 @@
 // The C functions on skins and morph weights of a lent scene; include/mesh3d.h declares them.
+#![tactic(auto)]
+
 ghost use Rattle.borrowed.specs.Slices.{change};
 ghost use Rattle.checks.specs.Drawn.{scene_lent};
 ghost use Rattle.skin_roots.specs.Roots.{RootAnswered};

@@ -4,7 +4,7 @@ use Rattle.std.proofs.Math.Option.{Option, none, some}
 use Rattle.std.specs.Float.Ieee.{lt}
 use Rattle.std.proofs.Math.Seq.{paste}
 use Rattle.float.specs.F32.{zero32}
-use Rattle.borrowed.specs.Slices.{Words, Floats}
+use Rattle.borrowed.specs.Slices.{SharedWords, SharedFloats, Floats}
 use Rattle.model.specs.Lists.{pick, part, row, rows_in, and_then, map_some}
 use Rattle.model.specs.Vector.{Vector}
 use Rattle.model.specs.Matrix.{Matrix, linear, turned, determinant, inverse_transpose}
@@ -48,7 +48,7 @@ pub record Held (whole : Whole) (o : Option Matrix) (v i : ℕ)
   pub tangent : HeldOne whole.tangents i (direction_by (map_some linear o) (part lent_tangents (v * 4) 3)) lent_t left_t
 
 -- in the slices that are borrowed
-abbrev pub HoldsDirections : Whole → Option Matrix → ℕ → ℕ → Floats → Floats → Floats → Floats → Type 0
+abbrev pub HoldsDirections : Whole → Option Matrix → ℕ → ℕ → SharedFloats → Floats → Floats → Floats → Type 0
 HoldsDirections whole o v i normals tangents n t =
     Held whole o v i normals.entry.now tangents.entry.now tangents.exit.now
     n.entry.now n.exit.now t.entry.now t.exit.now
@@ -58,7 +58,7 @@ pub record HeldVertex (whole : Whole) (o : Option Matrix) (v i : ℕ)
   pub positions : left_positions ≡ row_changed 3 (by_matrix affine_point o) v lent_positions
   pub directions : Held whole o v i normals lent_tangents left_tangents lent_n left_n lent_t left_t
 
-abbrev pub HoldsVertex : Whole → Option Matrix → ℕ → ℕ → Floats → Floats → Floats → Floats → Floats → Type 0
+abbrev pub HoldsVertex : Whole → Option Matrix → ℕ → ℕ → Floats → SharedFloats → Floats → Floats → Floats → Type 0
 HoldsVertex whole o v i positions normals tangents n t =
     HeldVertex whole o v i positions.entry.now positions.exit.now
     normals.entry.now tangents.entry.now tangents.exit.now
@@ -81,7 +81,7 @@ pub record HeldRows (palette : List Matrix) (joints : List (List ℕ)) (weights 
       (part lent_tangents ((k + i) * 4) 3)) held_tangents
 
 -- sixteen, in the slices that are borrowed
-abbrev pub HoldsBlock : Floats → Words → Floats → Whole → ℕ → Floats → Floats → Floats → Waiting → Type 0
+abbrev pub HoldsBlock : SharedFloats → SharedWords → SharedFloats → Whole → ℕ → Floats → SharedFloats → Floats → Waiting → Type 0
 HoldsBlock palette joints weights whole k positions normals tangents held =
     HeldRows (rows_in 16 palette.entry.now) (rows_in 4 joints.entry.now) (rows_in 4 weights.entry.now)
     whole k 16 positions.entry.now positions.exit.now

@@ -1,6 +1,6 @@
 -- Vertices that are moved by the matrices of their joints. Definitions only.
 use Rattle.std.specs.Prelude.{◌≡◌, List, ℕ, ◌+◌, ◌*◌, ◌/◌, Float, length}
-use Rattle.borrowed.specs.Slices.{Words, Floats}
+use Rattle.borrowed.specs.Slices.{SharedWords, SharedFloats, Floats}
 use Rattle.model.specs.Lists.{rows_in}
 use Rattle.model.specs.Vector.{Vector}
 use Rattle.model.specs.Matrix.{Matrix, inverse_transpose}
@@ -26,7 +26,7 @@ pub record MovedFrom (palette : List Matrix) (joints : List (List ℕ)) (weights
       ≡ rows_from 4 (λ i. by_matrix turned_tangent (joint_matrix palette joints weights (k + i))) k lent_tangents n
 
 -- in the slices that are borrowed: sixteen floats a joint, four joints and four weights a vertex
-abbrev pub MovesFrom : Floats → Words → Floats → ℕ → ℕ → Floats → Floats → Floats → Type 0
+abbrev pub MovesFrom : SharedFloats → SharedWords → SharedFloats → ℕ → ℕ → Floats → Floats → Floats → Type 0
 MovesFrom palette joints weights k n positions normals tangents =
     MovedFrom (rows_in 16 palette.entry.now) (rows_in 4 joints.entry.now) (rows_in 4 weights.entry.now) k n
     positions.entry.now positions.exit.now
@@ -44,7 +44,7 @@ pub record FirstMoved (palette : List Matrix) (joints : List (List ℕ)) (weight
       left_tangents ≡ first_rows 4 (λ i. by_matrix turned_tangent (joint_matrix palette joints weights i)) lent_tangents n
 
 -- all that stand in whole blocks of sixteen
-abbrev pub MovesBlocks : Floats → Words → Floats → Floats → Floats → Floats → Type 0
+abbrev pub MovesBlocks : SharedFloats → SharedWords → SharedFloats → Floats → Floats → Floats → Type 0
 MovesBlocks palette joints weights positions normals tangents =
     FirstMoved (rows_in 16 palette.entry.now) (rows_in 4 joints.entry.now) (rows_in 4 weights.entry.now)
     (length positions.entry.now / 3 / 16 * 16)

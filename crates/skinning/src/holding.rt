@@ -18,14 +18,14 @@ use transform::put_units;
 use vertex_rows::{Blend, flip_tangent, joint_matrix, load3, move_position, store3};
 
 // Whether a block has all its normals, and all its tangents. Where it has not, it has none.
-#[derive(Drop)]
+#[derive(Clone, Copy)]
 struct Whole {
     normals: bool,
     tangents: bool,
 }
 
 // The directions of sixteen normals and of sixteen tangents.
-#[derive(Drop)]
+#[derive(Clone, Copy)]
 struct Waiting {
     normals: [f32; 48],
     tangents: [f32; 48],

@@ -1,6 +1,8 @@
 // Vertices in lent flat slices, moved by the joints of a skin, in place: the port of skinning.rs's
 // `Primitive::skinned`. Three floats a position or a normal, four a tangent; floats past the last whole row stay as
 // they are.
+#![tactic(auto)]
+
 ghost use Rattle.std.specs.Prelude.{◌≡◌, false, ◌+◌, ◌/◌, ◌≤◌, ◌<◌, length};
 ghost use Rattle.borrowed.specs.InPlace.{InPlace};
 ghost use Rattle.model.specs.Lists.{rows_in};

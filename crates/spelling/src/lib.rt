@@ -1,5 +1,7 @@
 // Text put into an output from a place on, as far as there is room. Each function answers the place behind what it put,
 // also past the end, so that the same function tells how much room is needed.
+#![tactic(auto)]
+
 ghost use Rattle.std.specs.Prelude.{◌≡◌, [], ◌∷◌, map, ◌+◌, ◌*◌, ◌≤◌, ◌<◌, min, ltb, eqb, length, set};
 ghost use Rattle.std.specs.Float.{binary32};
 ghost use Rattle.std.specs.Float.Ieee.{to_bits};

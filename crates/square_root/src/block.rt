@@ -8,13 +8,13 @@ ghost use Rattle.square_root.specs.Normal.{is_normal, all_normal, one_unless};
 use crate::root::{number, sqrt};
 
 // A number for each of sixteen rows.
-#[derive(Drop)]
+#[derive(Clone, Copy)]
 pub struct Block {
     pub of: [f32; 16],
 }
 
 // The roots of a block, and whether all its numbers are normal.
-#[derive(Drop)]
+#[derive(Clone, Copy)]
 pub struct Roots {
     pub normal: bool,
     pub of: [f32; 16],

@@ -1,4 +1,6 @@
 // The square root of an f32, one at a time and sixteen at once: `f32::sqrt` of Rust's std, which the language lacks.
+#![tactic(auto)]
+
 mod block;
 mod root;
 

@@ -1,5 +1,7 @@
 // A scene as it is lent: records of whole numbers in `words`, and floats in slices beside them. docs/TABLES.md has the
 // layout. What a record says is read here; whether all that is lent lies in its tables is asked by the crate `checks`.
+#![tactic(auto)]
+
 use tracks::Part;
 
 mod parts;
@@ -17,14 +19,14 @@ pub use wiping::{wipe_floats, wipe_words};
 
 // The nodes and the roots.
 #[repr(C)]
-#[derive(Drop)]
+#[derive(Clone, Copy)]
 pub struct Graph {
     pub nodes: Part,
     pub roots: Part,
 }
 
 #[repr(C)]
-#[derive(Drop)]
+#[derive(Clone, Copy)]
 pub struct Meshes {
     pub meshes: Part,
     pub primitives: Part,
@@ -33,7 +35,7 @@ pub struct Meshes {
 }
 
 #[repr(C)]
-#[derive(Drop)]
+#[derive(Clone, Copy)]
 pub struct Skins {
     pub skins: Part,
     pub skeletons: Part,
@@ -41,7 +43,7 @@ pub struct Skins {
 
 // Where each table lies in `words`: the word that it starts at, and how many records it has.
 #[repr(C)]
-#[derive(Drop)]
+#[derive(Clone, Copy)]
 pub struct Header {
     pub graph: Graph,
     pub channels: Part,
@@ -50,20 +52,20 @@ pub struct Header {
 }
 
 // An id that may be absent: then the mark is 0.
-#[derive(Drop)]
+#[derive(Clone, Copy)]
 pub struct Reference {
     pub mark: u32,
     pub id: u32,
 }
 
 // A part that may be absent: then the mark is 0. A part that is present with no entries is not absent.
-#[derive(Drop)]
+#[derive(Clone, Copy)]
 pub struct Slot {
     pub mark: u32,
     pub part: Part,
 }
 
-#[derive(Drop)]
+#[derive(Clone, Copy)]
 pub struct NodeRow {
     pub form: u32,
     pub base: usize,
@@ -73,7 +75,7 @@ pub struct NodeRow {
     pub weights: Slot,
 }
 
-#[derive(Drop)]
+#[derive(Clone, Copy)]
 pub struct ChannelRow {
     pub target: u32,
     pub property: u32,
@@ -83,13 +85,13 @@ pub struct ChannelRow {
     pub values: Part,
 }
 
-#[derive(Drop)]
+#[derive(Clone, Copy)]
 pub struct MeshRow {
     pub primitives: Part,
     pub weights: Part,
 }
 
-#[derive(Drop)]
+#[derive(Clone, Copy)]
 pub struct PrimitiveRow {
     pub positions: Part,
     pub normals: Slot,
@@ -99,7 +101,7 @@ pub struct PrimitiveRow {
     pub targets: Part,
 }
 
-#[derive(Drop)]
+#[derive(Clone, Copy)]
 pub struct TargetRow {
     pub positions: Slot,
     pub normals: Slot,
@@ -107,34 +109,34 @@ pub struct TargetRow {
     pub in_betweens: Part,
 }
 
-#[derive(Drop)]
+#[derive(Clone, Copy)]
 pub struct InBetweenRow {
     pub weight: usize,
     pub positions: Slot,
     pub normals: Slot,
 }
 
-#[derive(Drop)]
+#[derive(Clone, Copy)]
 pub struct SkinRow {
     pub skeleton: u32,
     pub root: Reference,
 }
 
-#[derive(Drop)]
+#[derive(Clone, Copy)]
 pub struct SkeletonRow {
     pub joints: Part,
     pub inverse_binds: Part,
 }
 
 // What an id that may be absent names.
-#[derive(Drop)]
+#[derive(Clone, Copy)]
 pub enum Named {
     Id(u32),
     Nothing,
 }
 
 // What a channel drives.
-#[derive(Drop)]
+#[derive(Clone, Copy)]
 pub enum Property {
     Translation,
     Rotation,

@@ -1,14 +1,14 @@
 // Reads texts, each up to a line with '%', and prints for each the number that the reader answers; where the text has
 // no reading also the place at which it breaks; where the number is 0 also the node and the bits of the time, and
 // whether the scene is written as the same text.
+#![tactic(auto)]
+
 ghost use Rattle.std.specs.Prelude.{◌≤◌, length};
+ghost use Rattle.std.specs.Io.{ReadsAtMost};
 
 use brackets::Met;
-use libc::{STDIN_FILENO, STDOUT_FILENO};
-
-fn print_number(n: u32) {
-    io::print_decimal(STDOUT_FILENO, n as u64);
-}
+use std::io;
+use std::io::Read;
 
 // The place of the next '%', or the end.
 fn end_of(text: &[u8], from: usize) -> usize
@@ -37,12 +37,12 @@ fn is_same(text: &[u8], out: &[u8], n: usize) -> bool {
     false
 }
 
-fn answer(text: &[u8]) {
+fn answer(out: &impl Print, text: &[u8]) -> io::Result<()> {
     let mut words = [0u32; 1024];
     let mut floats = [0f32; 1024];
     let mut node_weights = [0f32; 16];
     let mut mesh_weights = [0f32; 16];
-    let mut out = [0u8; 8192];
+    let mut spelled = [0u8; 8192];
     let r = scene_text::read_scene(
         text,
         &mut words,
@@ -50,17 +50,13 @@ fn answer(text: &[u8]) {
         &mut node_weights,
         &mut mesh_weights,
     );
-    print_number(r.number);
+    print!(out; "{}", r.number)?;
     let found = scene_text::find_break(text);
     if found.number != 0 {
-        io::write_all(STDOUT_FILENO, b" at ");
-        io::print_decimal(STDOUT_FILENO, found.at as u64);
+        print!(out; " at {}", found.at)?;
     }
     if r.number == 0 {
-        io::write_all(STDOUT_FILENO, b" node ");
-        print_number(r.node);
-        io::write_all(STDOUT_FILENO, b" time ");
-        print_number(float::to_bits(r.time));
+        print!(out; " node {} time {}", r.node, float::to_bits(r.time))?;
         let header = r.header;
         let w = scene_writing::write_scene(
             &words,
@@ -70,26 +66,42 @@ fn answer(text: &[u8]) {
             header,
             r.node,
             r.time,
-            &mut out,
+            &mut spelled,
         );
-        if is_same(text, &out, w.length) {
-            io::write_all(STDOUT_FILENO, b" written the same");
+        if is_same(text, &spelled, w.length) {
+            print!(out; " written the same")?;
         }
     }
-    io::write_all(STDOUT_FILENO, b"\n");
+    println!(out)
 }
 
-fn main() {
+// Reads until `buf` is full or the input ends, and answers how many bytes stand at its start.
+fn read_full<R: Read>(input: &mut R, buf: &mut [u8]) -> io::Result<usize>
+    ensures { ReadsAtMost result buf.new }
+{
+    let mut done = 0;
+    while done < buf.len() {
+        let n = input.read(&mut buf[done..])?;
+        if n == 0 {
+            break;
+        }
+        done += n;
+    }
+    Ok(done)
+}
+
+fn main(rt: HostRuntime) -> io::Result<()> {
+    let out = rt.stdout();
     let mut buffer = [0u8; 32768];
-    let got = io::read_full(STDIN_FILENO, &mut buffer);
+    let got = read_full(&mut rt.stdin(), &mut buffer)?;
     if got == 32768 {
-        io::write_all(STDOUT_FILENO, b"too many texts: 32768 bytes or more\n");
-        return;
+        return println!(out; "too many texts: 32768 bytes or more");
     }
     let mut at = 0;
     while at < got {
         let end = end_of(&buffer, at);
-        answer(&buffer[at..end]);
+        answer(&out, &buffer[at..end])?;
         at = end + 2;
     }
+    Ok(())
 }

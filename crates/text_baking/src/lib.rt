@@ -1,4 +1,6 @@
 // A scene's text baked: from the bytes of a text to the bytes that are printed, in room of its own.
+#![tactic(auto)]
+
 ghost use Rattle.std.specs.Prelude.{◌≡◌};
 ghost use Rattle.checks.specs.Drawn.{scene_lent};
 ghost use Rattle.spelling.specs.Pushed.{Puts};

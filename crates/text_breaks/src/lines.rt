@@ -45,7 +45,7 @@ pub fn column_behind(before: &[u8]) -> usize
 }
 
 // Where the line before and this line begin, where the last bracket was opened, and how many are open.
-#[derive(Drop)]
+#[derive(Clone, Copy)]
 pub struct Spot {
     pub last: usize,
     pub form: usize,

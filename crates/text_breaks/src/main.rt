@@ -1,9 +1,13 @@
 // Reads a text of up to 65,536 bytes and prints where it breaks: the line, the column, a usual cause where there is
 // one, and what was expected there.
-ghost use Rattle.std.specs.Prelude.{◌≤◌};
+#![tactic(auto)]
 
-use libc::STDIN_FILENO;
+ghost use Rattle.std.specs.Prelude.{◌≤◌};
+ghost use Rattle.std.specs.Io.{ReadsAtMost};
+
 use lines::Spot;
+use std::io;
+use std::io::Read;
 use words::{print, print_number};
 
 mod lines;
@@ -41,104 +45,107 @@ fn slot_of(k: usize, code: u64) -> usize
 }
 
 // What mail does to a text, and files that end too early.
-fn print_cause(text: &[u8], at: usize, s: Spot) {
+fn print_cause(out: &impl Print, text: &[u8], at: usize, s: Spot) -> io::Result<()> {
     if text.len() <= at {
         if s.form < at {
             if 0 < s.depth {
-                print(b"the text ends inside a form; ");
-            } else {
-                print(b"the text ends without a line end; ");
+                return print(out, b"the text ends inside a form; ");
             }
+            return print(out, b"the text ends without a line end; ");
         }
-        return;
+        return Ok(());
     }
     let b = text[at];
     if b == 13 {
-        print(b"a CR: lines end in LF, not in CR LF, save the text so; ");
-        return;
+        return print(
+            out,
+            b"a CR: lines end in LF, not in CR LF, save the text so; ",
+        );
     }
     if b == 10 {
         if s.form == at {
-            print(b"a blank line; ");
-        } else {
-            print(b"the line ends inside a form, which stands on one line; ");
+            return print(out, b"a blank line; ");
         }
-        return;
+        return print(
+            out,
+            b"the line ends inside a form, which stands on one line; ",
+        );
     }
     if lines::trailing_blanks(text, at) {
-        print(b"blanks at the end of a line; ");
+        return print(out, b"blanks at the end of a line; ");
     }
+    Ok(())
 }
 
 // At the start of a line.
-fn print_forms(text: &[u8], at: usize, s: Spot) {
+fn print_forms(out: &impl Print, text: &[u8], at: usize, s: Spot) -> io::Result<()> {
     if text.len() <= at {
-        print(b"expected just one scene form, the first of all");
-        return;
+        return print(out, b"expected just one scene form, the first of all");
     }
     let mut k = 0;
     if 0 < s.form {
         let w = brackets::name(text, s.last);
         k = kind_of(w.value);
     }
-    print(b"expected a form, its title one of ");
-    words::print_titles(k);
+    print(out, b"expected a form, its title one of ")?;
+    words::print_titles(out, k)
 }
 
 // Between the fields of a form of kind k, or in the name of one.
-fn print_between(text: &[u8], at: usize, k: usize)
+fn print_between(out: &impl Print, text: &[u8], at: usize, k: usize) -> io::Result<()>
     requires { k ≤ 9 }
 {
     if at < text.len() {
         if text[at] == b')' {
-            print(b"a field is missing, or there are two where just one may be; ");
+            print(
+                out,
+                b"a field is missing, or there are two where just one may be; ",
+            )?;
         }
     }
-    print(b"expected a field or the closing bracket; in a form ");
-    words::print_name(scene_schema::title(k));
-    print(b" these fields follow each other, each behind one space: ");
-    words::print_fields(k);
+    print(out, b"expected a field or the closing bracket; in a form ")?;
+    words::print_name(out, scene_schema::title(k))?;
+    print(
+        out,
+        b" these fields follow each other, each behind one space: ",
+    )?;
+    words::print_fields(out, k)
 }
 
 // Behind the name of slot j of kind k, where so many items have begun.
-fn print_items(k: usize, j: usize, begun: usize)
+fn print_items(out: &impl Print, k: usize, j: usize, begun: usize) -> io::Result<()>
     requires { (k ≤ 9) × (j ≤ 16) }
 {
     let g = 16 * k + j;
-    print(b"expected in the field ");
-    words::print_name(scene_schema::slot_name(g));
-    print(b": ");
-    words::print_rule(scene_schema::slot_rule(g));
-    print(b"; up to here there are ");
-    print_number(begun);
+    print(out, b"expected in the field ")?;
+    words::print_name(out, scene_schema::slot_name(g))?;
+    print(out, b": ")?;
+    words::print_rule(out, scene_schema::slot_rule(g))?;
+    print(out, b"; up to here there are ")?;
+    print_number(out, begun)
 }
 
-fn print_expected(text: &[u8], at: usize, s: Spot) {
+fn print_expected(out: &impl Print, text: &[u8], at: usize, s: Spot) -> io::Result<()> {
     if at <= s.form {
-        print_forms(text, at, s);
-        return;
+        return print_forms(out, text, at, s);
     }
     if s.depth == 0 {
-        print(b"expected the line's end, LF");
-        return;
+        return print(out, b"expected the line's end, LF");
     }
     let w = brackets::name(text, s.form);
     if at < w.next {
-        print(b"expected a title, one of ");
-        words::print_titles(0);
-        return;
+        print(out, b"expected a title, one of ")?;
+        return words::print_titles(out, 0);
     }
     let k = kind_of(w.value);
     if s.depth == 1 {
-        print_between(text, at, k);
-        return;
+        return print_between(out, text, at, k);
     }
     let v = brackets::name(text, s.field);
     if at < v.next {
-        print_between(text, at, k);
-        return;
+        return print_between(out, text, at, k);
     }
-    print_items(k, slot_of(k, v.value), lines::spaces(text, v.next, at));
+    print_items(out, k, slot_of(k, v.value), lines::spaces(text, v.next, at))
 }
 
 fn least(a: usize, b: usize) -> usize
@@ -147,31 +154,48 @@ fn least(a: usize, b: usize) -> usize
     if a < b { a } else { b }
 }
 
-fn report(text: &[u8]) {
+fn report(out: &impl Print, text: &[u8]) -> io::Result<()> {
     let found = scene_text::find_break(text);
     if found.number == 0 {
-        print(b"the text has a reading\n");
-        return;
+        return print(out, b"the text has a reading\n");
     }
     let at = least(found.at, text.len());
     let before = &text[..at];
-    print(b"line ");
-    print_number(lines::line_behind(before));
-    print(b", column ");
-    print_number(lines::column_behind(before));
-    print(b": ");
+    print(out, b"line ")?;
+    print_number(out, lines::line_behind(before))?;
+    print(out, b", column ")?;
+    print_number(out, lines::column_behind(before))?;
+    print(out, b": ")?;
     let s = lines::spot_behind(before);
-    print_cause(text, at, s);
-    print_expected(text, at, s);
-    print(b"\n");
+    print_cause(out, text, at, s)?;
+    print_expected(out, text, at, s)?;
+    print(out, b"\n")
 }
 
-fn main() {
-    let mut buffer = [0u8; 65537];
-    let got = io::read_full(STDIN_FILENO, &mut buffer);
-    if 65536 < got {
-        print(b"the text has more than 65536 bytes: too long for this program\n");
-        return;
+// Reads until `buf` is full or the input ends, and answers how many bytes stand at its start.
+fn read_full<R: Read>(input: &mut R, buf: &mut [u8]) -> io::Result<usize>
+    ensures { ReadsAtMost result buf.new }
+{
+    let mut done = 0;
+    while done < buf.len() {
+        let n = input.read(&mut buf[done..])?;
+        if n == 0 {
+            break;
+        }
+        done += n;
     }
-    report(&buffer[..got]);
+    Ok(done)
+}
+
+fn main(rt: HostRuntime) -> io::Result<()> {
+    let out = rt.stdout();
+    let mut buffer = [0u8; 65537];
+    let got = read_full(&mut rt.stdin(), &mut buffer)?;
+    if 65536 < got {
+        return print(
+            &out,
+            b"the text has more than 65536 bytes: too long for this program\n",
+        );
+    }
+    report(&out, &buffer[..got])
 }

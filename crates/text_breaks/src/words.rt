@@ -1,53 +1,54 @@
 // Words of the schema, printed.
 ghost use Rattle.std.specs.Prelude.{◌≤◌};
 
-use libc::STDOUT_FILENO;
 use scene_schema::{Name, Pool, Rule};
+use std::io;
 
-pub fn print(words: &[u8]) {
-    io::write_all(STDOUT_FILENO, words);
+pub fn print(out: &impl Print, words: &[u8]) -> io::Result<()> {
+    out.write_all(words)
 }
 
-pub fn print_number(n: usize) {
-    io::print_decimal(STDOUT_FILENO, n as u64);
+pub fn print_number(out: &impl Print, n: usize) -> io::Result<()> {
+    print!(out; "{n}")
 }
 
 // So many letters, the first one lowest.
-fn print_letters(letters: usize, word: u64) {
+fn print_letters(out: &impl Print, letters: usize, word: u64) -> io::Result<()> {
     let mut v = word;
     let mut left = letters;
     while 0 < left {
         let letter = [(v % 256) as u8];
-        print(&letter);
+        print(out, &letter)?;
         v = v / 256;
         left -= 1;
     }
+    Ok(())
 }
 
-pub fn print_name(name: Name) {
+pub fn print_name(out: &impl Print, name: Name) -> io::Result<()> {
     let n = name.letters as usize;
     if n <= 8 {
-        print_letters(n, name.low);
-        return;
+        return print_letters(out, n, name.low);
     }
-    print_letters(8, name.low);
-    print_letters(n - 8, name.high);
+    print_letters(out, 8, name.low)?;
+    print_letters(out, n - 8, name.high)
 }
 
 // The titles from kind k on.
-pub fn print_titles(k: usize) {
+pub fn print_titles(out: &impl Print, k: usize) -> io::Result<()> {
     let mut i = k;
     while i < 9 {
         if k < i {
-            print(b", ");
+            print(out, b", ")?;
         }
-        print_name(scene_schema::title(i));
+        print_name(out, scene_schema::title(i))?;
         i += 1;
     }
+    Ok(())
 }
 
 // The names of the fields of kind k, in their order: of those with "or" just one is there.
-pub fn print_fields(k: usize)
+pub fn print_fields(out: &impl Print, k: usize) -> io::Result<()>
     requires { k ≤ 9 }
 {
     let n = scene_schema::slots(k);
@@ -55,67 +56,73 @@ pub fn print_fields(k: usize)
     let mut j = 0;
     while j < 16 {
         if n <= j {
-            return;
+            return Ok(());
         }
-        left = print_field(16 * k + j, j, left);
+        left = print_field(out, 16 * k + j, j, left)?;
         j += 1;
     }
+    Ok(())
 }
 
 // One of them, where so many are left of its group; how many are left behind it.
-fn print_field(g: usize, j: usize, left: usize) -> usize {
+fn print_field(out: &impl Print, g: usize, j: usize, left: usize) -> io::Result<usize> {
     let rule = scene_schema::slot_rule(g);
     let group = rule.one_of as usize;
     if 0 < left {
-        print(b" or ");
-        print_name(scene_schema::slot_name(g));
-        return left - 1;
+        print(out, b" or ")?;
+        print_name(out, scene_schema::slot_name(g))?;
+        return Ok(left - 1);
     }
     if 0 < j {
-        print(b", ");
+        print(out, b", ")?;
     }
-    print_name(scene_schema::slot_name(g));
+    print_name(out, scene_schema::slot_name(g))?;
     if 0 < group {
-        return group - 1;
+        return Ok(group - 1);
     }
-    print(b" (may be absent)");
-    0
+    print(out, b" (may be absent)")?;
+    Ok(0)
 }
 
 // What the items of a field are, and how many.
-pub fn print_rule(rule: Rule) {
+pub fn print_rule(out: &impl Print, rule: Rule) -> io::Result<()> {
     let width = rule.width as usize;
     let pool = rule.pool;
     if rule.fixed {
         if width == 0 {
-            print(b"no items");
-            return;
+            return print(out, b"no items");
         }
-        print_sort(pool);
-        print(b"just ");
+        print_sort(out, pool)?;
+        print(out, b"just ")?;
     } else {
-        print_sort(pool);
-        print(b"a multiple of ");
+        print_sort(out, pool)?;
+        print(out, b"a multiple of ")?;
     }
-    print_number(width);
-    print(b" of them");
+    print_number(out, width)?;
+    print(out, b" of them")
 }
 
-fn print_sort(pool: Pool) {
+fn print_sort(out: &impl Print, pool: Pool) -> io::Result<()> {
     match pool {
-        Pool::Number => print_numbers(),
-        Pool::Ids => print_numbers(),
-        Pool::Bits => print_floats(),
-        Pool::Floats => print_floats(),
-        Pool::NodeWeights => print_floats(),
-        Pool::MeshWeights => print_floats(),
+        Pool::Number => print_numbers(out),
+        Pool::Ids => print_numbers(out),
+        Pool::Bits => print_floats(out),
+        Pool::Floats => print_floats(out),
+        Pool::NodeWeights => print_floats(out),
+        Pool::MeshWeights => print_floats(out),
     }
 }
 
-fn print_numbers() {
-    print(b"numbers below 4294967296 with no leading zero, each behind one space, ");
+fn print_numbers(out: &impl Print) -> io::Result<()> {
+    print(
+        out,
+        b"numbers below 4294967296 with no leading zero, each behind one space, ",
+    )
 }
 
-fn print_floats() {
-    print(b"floats of eight digits 0 to 9 and a to f, NaN as 7fc00000, each behind one space, ");
+fn print_floats(out: &impl Print) -> io::Result<()> {
+    print(
+        out,
+        b"floats of eight digits 0 to 9 and a to f, NaN as 7fc00000, each behind one space, ",
+    )
 }

@@ -1,4 +1,6 @@
 // The C functions on scenes as text (docs/TEXT.md); include/mesh3d.h declares them.
+#![tactic(auto)]
+
 ghost use Rattle.std.specs.Prelude.{◌≡◌};
 ghost use Rattle.checks.specs.Drawn.{scene_lent};
 ghost use Rattle.scene_forms.specs.Read.{slices};

@@ -1,1 +1,2 @@
 // How long the tables of a text can be: laws alone.
+#![tactic(auto)]

@@ -80,7 +80,7 @@ fn quat_over(q: Quat, lent: [f32; 4]) -> [f32; 4]
 
 // A refusal number, or 0, and how many floats were written to the lent slice.
 #[repr(C)]
-#[derive(Drop)]
+#[derive(Clone, Copy)]
 pub struct Told {
     pub number: u32,
     pub count: usize,

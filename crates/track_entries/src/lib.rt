@@ -1,4 +1,6 @@
 // The C functions on tracks; include/mesh3d.h declares them.
+#![tactic(auto)]
+
 mod bytes;
 mod floats;
 

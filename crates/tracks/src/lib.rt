@@ -1,5 +1,7 @@
 // Keyframe tracks in a table of floats: how their keys and values are laid out, whether the keys are in line, and what
 // the table draws.
+#![tactic(auto)]
+
 mod keys;
 mod layout;
 mod numbers;
@@ -8,7 +10,7 @@ pub use keys::keys_in_line;
 pub use layout::{centre, factor, fits, track_stride, width};
 pub use numbers::{is_scalar, lies_in, number_in, table_number};
 
-#[derive(Drop)]
+#[derive(Clone, Copy)]
 pub enum Interpolation {
     Step,
     Linear,
@@ -16,7 +18,7 @@ pub enum Interpolation {
 }
 
 // The kind of a track's values; a Vec3 or a Quat counts as one value.
-#[derive(Drop)]
+#[derive(Clone, Copy)]
 pub enum Kind {
     Vec3,
     Quat,
@@ -25,7 +27,7 @@ pub enum Kind {
 
 // Entries of a table: where they start, and how many there are.
 #[repr(C)]
-#[derive(Drop)]
+#[derive(Clone, Copy)]
 pub struct Part {
     pub at: usize,
     pub count: usize,
@@ -33,7 +35,7 @@ pub struct Part {
 
 // A track whose keys and values lie in a table of floats; the values are counted by the kind's entries, and start at a
 // float.
-#[derive(Drop)]
+#[derive(Clone, Copy)]
 pub struct Track {
     pub kind: Kind,
     pub interpolation: Interpolation,

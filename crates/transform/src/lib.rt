@@ -1,5 +1,7 @@
 // Vertices in lent flat slices, moved by a matrix, in place: the port of transform.rs's `transformed`. Three floats a
 // position or a normal, four a tangent; floats past the last whole row stay as they are.
+#![tactic(auto)]
+
 mod blocks;
 mod packed;
 mod rigid;

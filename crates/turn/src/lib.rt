@@ -1,4 +1,6 @@
 // The turn weight of a Linear rotation: the f64 series in forty fixed steps.
+#![tactic(auto)]
+
 ghost use Rattle.std.specs.Prelude.{◌≡◌, ◌≤◌};
 ghost use Rattle.turn.specs.Weight.{step, series, weight};
 

@@ -1,4 +1,6 @@
 // The C functions of vertices; include/mesh3d.h declares them.
+#![tactic(auto)]
+
 mod morphs;
 mod moves;
 

@@ -10,7 +10,7 @@ use crate::rows::load16;
 use scene::Mat4;
 
 // The weighted joint matrices of a vertex added up, and whether there is one.
-#[derive(Drop)]
+#[derive(Clone, Copy)]
 pub struct Blend {
     pub any: bool,
     pub matrix: Mat4,

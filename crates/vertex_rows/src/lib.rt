@@ -1,5 +1,7 @@
 // Vertices in lent flat slices, read, written and moved row by row, and the matrix that the joints of a vertex add up
 // to. Three floats a position or a normal, four a tangent; floats past the last whole row stay as they are.
+#![tactic(auto)]
+
 mod directions;
 mod influences;
 mod positions;

@@ -7,7 +7,7 @@ ghost use Rattle.vertex_rows.specs.Rows.{tangent};
 use scene::{Mat4, Vec3};
 
 // A direction along the surface, and the side on which the bitangent lies.
-#[derive(Drop)]
+#[derive(Clone, Copy)]
 pub(crate) struct Tangent {
     pub(crate) direction: Vec3,
     pub(crate) handedness: f32,

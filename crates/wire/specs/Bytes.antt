@@ -2,7 +2,7 @@
 use Rattle.std.specs.Prelude.{◌≡◌, List, [], ◌∷◌, ◌++◌, ℕ, ◌+◌, ◌*◌, ◌/◌, ◌%◌, min, Float, length, get_or, take, drop}
 use Rattle.std.specs.Float.{binary32}
 use Rattle.std.specs.Float.Ieee.{of_bits, to_bits}
-use Rattle.borrowed.specs.Slices.{Words, Floats}
+use Rattle.borrowed.specs.Slices.{SharedWords, SharedFloats, Words}
 use Rattle.model.specs.Lists.{tabulate}
 
 -- the word whose first byte is byte i
@@ -44,8 +44,8 @@ abbrev pub WroteBytes : List Float → List ℕ → List ℕ → ℕ → Type 0
 WroteBytes floats lent left count = WroteAs (to_bits binary32) floats lent left count
 
 -- in bytes that are borrowed
-abbrev pub WritesWords : Words → Words → ℕ → Type 0
+abbrev pub WritesWords : SharedWords → Words → ℕ → Type 0
 WritesWords words bytes count = WroteAs (λ w. w) words.entry.now bytes.entry.now bytes.exit.now count
 
-abbrev pub WritesFloats : Floats → Words → ℕ → Type 0
+abbrev pub WritesFloats : SharedFloats → Words → ℕ → Type 0
 WritesFloats floats bytes count = WroteBytes floats.entry.now bytes.entry.now bytes.exit.now count

@@ -1,4 +1,6 @@
 // Little-endian words and floats in byte slices. Every NaN pattern is read as the one NaN, which is written 7fc00000.
+#![tactic(auto)]
+
 ghost use Rattle.std.specs.Prelude.{◌≡◌, ◌++◌, ◌+◌, ◌≤◌, ◌<◌, min, length, get_or, take, drop};
 ghost use Rattle.std.specs.Float.{nan};
 ghost use Rattle.borrowed.specs.Written.{Writes};

@@ -1,12 +1,14 @@
 // What is asked of each word of a record of a lent scene, and the first word that draws a number. docs/TABLES.md has
 // the layout and the limits.
+#![tactic(auto)]
+
 mod records;
 mod steps;
 
 pub use records::row_word;
 
 // A word of a record, and the number that it draws.
-#[derive(Drop)]
+#[derive(Clone, Copy)]
 pub struct Asked {
     pub word: u32,
     pub number: u32,

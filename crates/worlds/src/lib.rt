@@ -1,4 +1,6 @@
 // The world matrix of every placed node: `posed_node_transforms` of pose.rs, from a pose that is given in lent slots.
+#![tactic(auto)]
+
 ghost use Rattle.std.specs.Prelude.{◌≡◌, ◌+◌, ◌*◌, ◌≤◌, length};
 ghost use Rattle.borrowed.specs.Slices.{change};
 ghost use Rattle.model.specs.Limits.{node_limit};
@@ -18,7 +20,7 @@ pub use numbers::{is_short, is_short_for};
 
 // A refusal number, or 0, and how many entries were taken.
 #[repr(C)]
-#[derive(Drop)]
+#[derive(Clone, Copy)]
 pub struct Answer {
     pub number: u32,
     pub taken: usize,
