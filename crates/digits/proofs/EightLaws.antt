@@ -32,6 +32,7 @@ below_at n b bs h =
   where
     T_true : (t : Bool) → T t → t ≡ true
     T_true true x = refl
+    T_true false x = elim x [ ]
 
 -- ---- what each byte is read as
 abbrev pub digits_in : ℕ → ℕ → ℕ → ℕ

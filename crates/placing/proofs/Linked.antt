@@ -32,7 +32,7 @@ module _ (l : Lent) where
     roots = refl;
     lists = λ i b.
         let h : i < l.header.graph.nodes.count = omega (arith, node-count l.words l.header.graph) in
-        children-at l.words l.header.graph i h ∙ sym (ap (λ (n : Node). n.children) (decoding.node_at l i h));
+        children-at l.words l.header.graph i h ∙ sym (ap (λ (n : Node). n.children) (decoding.node-at l i h));
   }
 
   pub order-linked : order listing ≡ order (scene_of l)

@@ -1,3 +1,2 @@
-pub mod ArrayLengths
 pub mod MarkLaws
 pub mod KindLaws

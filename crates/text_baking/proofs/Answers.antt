@@ -3,12 +3,12 @@ use mathlib.Core.Path.{◌≡◌, refl, sym, ap, ◌∙◌}
 use mathlib.Core.Bool.{Bool, true, false, ◌&&◌}
 use mathlib.Core.List.{List, [], ◌∷◌, map}
 use mathlib.Core.Option.{Option, none, some}
-use Prim.Native.Nat.{ℕ, zero, suc, ◌+◌, ◌≤◌, min}
+use Prim.Native.Nat.{ℕ, zero, suc, ◌≤◌}
 use native.Mathlib.Omega.{arith}
 use borrow.Author.Tests.{eqb-true, ne_eqb, ltb-false, leb-true}
 use lib.Dec.{eqb, ltb, leb}
 use lib.Ieee.{Float}
-use lib.ListN.{length, replicate, length-replicate}
+use lib.ListN.{length, length-replicate}
 use lib.Seq.{sets, length-sets}
 use Rattle.borrowed.specs.Slices.{Words}
 use Rattle.float.specs.F32.{zero32}
@@ -16,8 +16,8 @@ use Rattle.model.specs.Lists.{pick}
 use Rattle.model.specs.Matrix.{Matrix}
 use Rattle.model.specs.Scene.{Scene, Mesh}
 use Rattle.model.specs.Skin.{blend_weights}
-use Rattle.model.specs.Refusals.{number, over_limit, first_of, lowest, early_number as early_tests}
-use Rattle.model.specs.Bake.{Request, Outcome, Output, refused, fits, delivered, judged, baked_from, baked_after, bake}
+use Rattle.model.specs.Refusals.{number, first_of, lowest, early_number as early_tests}
+use Rattle.model.specs.Bake.{Request, Output, refused, fits, delivered, judged, baked_from, baked_after, bake}
 use Rattle.model.specs.Bake.{output_of, baked_primitive}
 use Rattle.model.proofs.Tests.{both}
 use Rattle.tables.specs.Decoded.{scene_of}

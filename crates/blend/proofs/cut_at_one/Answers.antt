@@ -1,0 +1,7 @@
+use Rattle.blend.proofs.cut_at_one.Goals as goal
+
+pub returns-then-d : goal.returns-then-d
+returns-then-d c = rw c.if-d.true
+
+pub returns : goal.returns
+returns c = rw c.if-d.false

@@ -1,0 +1,30 @@
+use mathlib.Core.Path.{sym, ◌∙◌}
+use native.Mathlib.Omega.{arith}
+use Rattle.brackets.proofs.ListLaws.{items-start, items-length}
+use Rattle.brackets.proofs.ListLaws.{items-close, items-out, items_more}
+use Rattle.brackets.proofs.lists.other_floats.Goals as goal
+
+pub loop-left-init : goal.loop-left-init
+loop-left-init c = items-start (omega arith)
+
+pub shape_of-cells-then-byte_at-ne32 : goal.shape_of-cells-then-byte_at-ne32
+shape_of-cells-then-byte_at-ne32 c = items-length c.loop-left.invariant
+
+pub returns-then-byte_at-ne32 : goal.returns-then-byte_at-ne32
+returns-then-byte_at-ne32 c =
+    items-close c.loop-left.invariant c.loop-left-test.true (λ z. c.if-byte_at-ne32.true (c.byte_at.ensures ∙ z))
+    c.behind.ensures c.answer.ensures
+
+pub take_float-x-requires : goal.take_float-x-requires
+take_float-x-requires c = sym c.byte_at.ensures ∙ c.if-byte_at-ne32.false
+
+pub loop-left-preserved : goal.loop-left-preserved
+loop-left-preserved c =
+    items_more c.loop-left.invariant c.loop-left-test.true (sym c.byte_at.ensures ∙ c.if-byte_at-ne32.false)
+    c.take_float-x.ensures c.store_float-k.ensures c.one_more-t.ensures
+
+pub shape_of-cells : goal.shape_of-cells
+shape_of-cells c = items-length c.loop-left.invariant
+
+pub returns : goal.returns
+returns c = items-out c.loop-left.invariant c.loop-left-test.false c.answer-2.ensures

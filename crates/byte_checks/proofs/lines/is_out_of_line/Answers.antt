@@ -1,0 +1,14 @@
+use Rattle.float.specs.F32.{zero32}
+use Rattle.wire.specs.Bytes.{floats_in}
+use Rattle.pose.proofs.LineLaws.{zero-is-number, aimed, not-aimed}
+use Rattle.byte_checks.proofs.lines.is_out_of_line.Goals as goal
+
+pub returns-then-row-n : goal.returns-then-row-n
+returns-then-row-n c =
+    aimed (floats_in c.args.floats.now) c.args.row c.args.n _ zero32 64 _ c.track_of.ensures
+    c.requires zero-is-number c.sample_number.ensures c.if-row-n.true
+
+pub returns : goal.returns
+returns c =
+    let a = c.args in
+    not-aimed (floats_in a.floats.now) a.row a.n c.if-row-n.false

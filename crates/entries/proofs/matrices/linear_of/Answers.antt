@@ -1,0 +1,9 @@
+use mathlib.Core.Path.{sym}
+use borrow.Author.Rules.{rules}
+use lib.Ieee.{nan}
+use Rattle.model.proofs.ListLaws.{entries_from, by_entries}
+use Rattle.entries.proofs.matrices.linear_of.Goals as goal
+
+pub returns : goal.returns
+unfolding entries_from
+returns c = sym (by_entries nan _ 9 (search rules))

@@ -1,0 +1,4 @@
+use Rattle.entries.proofs.matrices.mesh3d_trs_to_matrix.Goals as goal
+
+pub returns : goal.returns
+returns c = cc

@@ -1,0 +1,4 @@
+use Rattle.entries.proofs.matrices.trs_of.Goals as goal
+
+pub returns : goal.returns
+returns c = cc

@@ -1,0 +1,14 @@
+use mathlib.Core.Path.{◌≡◌}
+use Prim.Native.Nat.{◌-◌, ◌≤◌}
+use lib.ListN.{take}
+use Rattle.model.specs.Lists.{foldl}
+use Rattle.deltas.specs.Betweens.{betweens_in}
+use Rattle.mesh.specs.Stations.{stations_in, widened_by}
+use Rattle.mesh.proofs.blending.widened_by_all.Given as goal
+
+abbrev pub invariant-loop-k : goal.invariant-loop-k
+invariant-loop-k l =
+    (l.k ≤ l.betweens.count) × (l.b ≡ foldl (widened_by l.floats l.w (betweens_in l.words l.floats l.h l.betweens)) l.initial.b (take l.k (stations_in l.words l.floats l.h l.betweens)))
+
+abbrev pub decreases-loop-k : goal.decreases-loop-k
+decreases-loop-k l = l.count - l.k

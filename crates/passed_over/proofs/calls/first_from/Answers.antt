@@ -1,0 +1,59 @@
+use mathlib.Core.Path.{◌≡◌, refl, sym, ap, ◌∙◌, subst}
+use mathlib.Core.Bool.{false}
+use Prim.Native.Nat.{ℕ, ◌-◌}
+use native.Mathlib.Omega.{arith}
+use Rattle.model.specs.Scene.{Track}
+use Rattle.tracks.specs.Tracks.{table_number}
+use Rattle.tables.specs.declared.ChannelRow.{ChannelRow}
+use Rattle.tables.specs.Records.{channel_row}
+use Rattle.tables.specs.Tags.{track_for}
+use Rattle.pose_slots.specs.Channels.{channel_in}
+use Rattle.pose.specs.Lines.{out_of_line}
+use Rattle.passed_over.specs.Reasons.{reason_for}
+use Rattle.passed_over.specs.Passed.{channel_told}
+use Rattle.passed_over.proofs.FirstLaws.{next, found, ended}
+use Rattle.passed_over.proofs.calls.first_from.Goals as goal
+
+pub loop-k-init : goal.loop-k-init
+loop-k-init c = (refl, refl)
+
+pub reason_at-reason-requires : goal.reason_at-reason-requires
+reason_at-reason-requires c =
+    let l = c.loop-k in
+    let a = c.args in
+    let e = sym c.channel_row.ensures in (
+      subst (λ (r : ChannelRow). table_number a.floats.now (track_for r) ≡ 0) e (c.requires.0 l.k (omega arith)),
+      c.requires.1,
+      subst (λ (r : ChannelRow). out_of_line a.n (channel_in a.floats.now r) ≡ false) e
+          (c.requires.2 l.k (omega arith)),
+    )
+
+pub returns-then-reason-ne0 : goal.returns-then-reason-ne0
+returns-then-reason-ne0 c =
+    let l = c.loop-k in
+    let a = c.args in
+    let g : ℕ → Track = λ i. channel_in a.floats.now (channel_row a.words.now a.channels i) in
+    let e = c.reason_at-reason.ensures
+    ∙ ap (λ (x : ChannelRow). reason_for a.time a.n (channel_in a.floats.now x)) c.channel_row.ensures in
+    ap (λ (m : ℕ). channel_told m l.k) e
+    ∙ sym (found (reason_for a.time a.n) a.channels.count g l.k (omega arith) (λ z. c.if-reason-ne0.true (e ∙ z)))
+    ∙ l.invariant.1
+
+pub loop-k-preserved : goal.loop-k-preserved
+loop-k-preserved c =
+    let l = c.loop-k in
+    let a = c.args in
+    let g : ℕ → Track = λ i. channel_in a.floats.now (channel_row a.words.now a.channels i) in
+    let e = c.reason_at-reason.ensures
+    ∙ ap (λ (x : ChannelRow). reason_for a.time a.n (channel_in a.floats.now x)) c.channel_row.ensures in (
+      refl,
+      sym (next (reason_for a.time a.n) a.channels.count g l.k (omega arith) (sym e ∙ c.if-reason-ne0.false))
+          ∙ l.invariant.1,
+    )
+
+pub returns : goal.returns
+returns c =
+    let l = c.loop-k in
+    let a = c.args in
+    let g : ℕ → Track = λ i. channel_in a.floats.now (channel_row a.words.now a.channels i) in
+    sym (ended (reason_for a.time a.n) a.channels.count g l.k (omega arith)) ∙ l.invariant.1

@@ -1,0 +1,51 @@
+use mathlib.Core.Path.{refl, sym, ap, ◌∙◌}
+use mathlib.Core.Bool.{true, false}
+use native.Mathlib.Omega.{arith}
+use borrow.Author.Tests.{lt-ltb, le-ltb}
+use lib.Dec.{ltb}
+use Rattle.tables.specs.Decoded.{scene_of}
+use Rattle.tables.proofs.Decoding.{node-count}
+use Rattle.checks.specs.Drawn.{lent_as}
+use Rattle.pose.proofs.CallLaws.{pose-drawn, pose-tests, none-drawn}
+use Rattle.pose.proofs.calls.pose_number.Goals as goal
+
+pub returns-then-drawn-ne0 : goal.returns-then-drawn-ne0
+returns-then-drawn-ne0 c =
+    let a = c.args in
+    let l = lent_as a.words.now a.floats.now a.node_weights.now a.mesh_weights.now a.h in
+    let e = c.tables_number-drawn.ensures in
+    e ∙ pose-drawn (scene_of l) a.time a.slots _ (omega (arith, e, c.if-drawn-ne0.true))
+
+pub returns-then-is_nan : goal.returns-then-is_nan
+returns-then-is_nan c =
+    let a = c.args in
+    let l = lent_as a.words.now a.floats.now a.node_weights.now a.mesh_weights.now a.h in
+    sym (pose-tests (scene_of l) a.time a.slots _ true _ _ (sym c.tables_number-drawn.ensures ∙ c.if-drawn-ne0.false) (sym c.is_nan.ensures ∙ c.if-is_nan.true) refl refl)
+
+pub keys_out_of_line-requires : goal.keys_out_of_line-requires
+keys_out_of_line-requires c =
+    let a = c.args in
+    none-drawn (lent_as a.words.now a.floats.now a.node_weights.now a.mesh_weights.now a.h) (sym c.tables_number-drawn.ensures ∙ c.if-drawn-ne0.false)
+
+pub returns-then-keys_out_of_line : goal.returns-then-keys_out_of_line
+returns-then-keys_out_of_line c =
+    let a = c.args in
+    let l = lent_as a.words.now a.floats.now a.node_weights.now a.mesh_weights.now a.h in
+    sym (pose-tests (scene_of l) a.time a.slots _ false true _ (sym c.tables_number-drawn.ensures ∙ c.if-drawn-ne0.false) (sym c.is_nan.ensures ∙ c.if-is_nan.false)
+    (sym (c.keys_out_of_line.ensures a.node_weights.now a.mesh_weights.now) ∙ c.if-keys_out_of_line.true) refl)
+
+pub returns-then-slots-graph : goal.returns-then-slots-graph
+returns-then-slots-graph c =
+    let a = c.args in
+    let l = lent_as a.words.now a.floats.now a.node_weights.now a.mesh_weights.now a.h in
+    sym (pose-tests (scene_of l) a.time a.slots _ false false true (sym c.tables_number-drawn.ensures ∙ c.if-drawn-ne0.false) (sym c.is_nan.ensures ∙ c.if-is_nan.false)
+    (sym (c.keys_out_of_line.ensures a.node_weights.now a.mesh_weights.now) ∙ c.if-keys_out_of_line.false)
+    (ap (ltb a.slots) (node-count l) ∙ lt-ltb _ _ c.if-slots-graph.true))
+
+pub returns : goal.returns
+returns c =
+    let a = c.args in
+    let l = lent_as a.words.now a.floats.now a.node_weights.now a.mesh_weights.now a.h in
+    sym (pose-tests (scene_of l) a.time a.slots _ false false false (sym c.tables_number-drawn.ensures ∙ c.if-drawn-ne0.false) (sym c.is_nan.ensures ∙ c.if-is_nan.false)
+    (sym (c.keys_out_of_line.ensures a.node_weights.now a.mesh_weights.now) ∙ c.if-keys_out_of_line.false)
+    (ap (ltb a.slots) (node-count l) ∙ le-ltb _ _ c.if-slots-graph.false))

@@ -1,0 +1,4 @@
+use Rattle.replay.proofs.is_line.Goals as goal
+
+pub returns : goal.returns
+returns c = cc

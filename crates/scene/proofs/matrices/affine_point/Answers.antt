@@ -1,0 +1,10 @@
+use Rattle.model.specs.Lists.{foldl}
+use Rattle.model.specs.Matrix.{moved}
+use Rattle.model.specs.Vector.{total, dot}
+use mathlib.Core.List.{zip_with}
+use mathlib.Core.Path.{refl}
+use Rattle.scene.proofs.matrices.affine_point.Goals as goal
+
+pub returns : goal.returns
+unfolding moved dot total foldl zip_with
+returns c = refl

@@ -1,0 +1,8 @@
+use Rattle.spelling.proofs.Pushing.{put-append}
+use Rattle.scene_spelling.proofs.forms.put_interpolation.Goals as goal
+
+pub returns : goal.returns
+returns c =
+    put-append _ _ _
+    (put-append _ _ _ c.put_tag-a.ensures c.put_tag-b.ensures)
+    c.put_tag.ensures
