@@ -20,7 +20,8 @@ taken (Second s) = true
 
 pub returns-in_default : goal.returns-in_default
 unfolding tabulate
-returns-in_default c = last_arm layout Nothing (λ g. taken (get_or layout g Nothing)) refl _ c.in_default.in_default-own.rest
+returns-in_default c = last_arm layout Nothing (λ g. taken (get_or layout g Nothing)) refl _
+    c.in_default.in_default-own.rest
 
 pub returns-in-16 : goal.returns-in-16
 returns-in-16 c = arm layout Nothing c.in-16.is

@@ -12,7 +12,8 @@ group-arm e = ap (λ (r : Rule). r.one_of) (arm slot_rules no_rule e)
 
 pub returns-in_default : goal.returns-in_default
 unfolding tabulate
-returns-in_default c = ap (λ (r : Rule). r.one_of) (last_arm slot_rules no_rule is_slot refl _ c.in_default.in_default-own.rest)
+returns-in_default c =
+    ap (λ (r : Rule). r.one_of) (last_arm slot_rules no_rule is_slot refl _ c.in_default.in_default-own.rest)
 
 pub returns-in-0 : goal.returns-in-0
 returns-in-0 c = group-arm c.in-0.is

@@ -7,7 +7,8 @@ use Rattle.scene_spelling.proofs.fields.put_slot.Goals as goal
 
 pub returns-then-is_marked : goal.returns-then-is_marked
 returns-then-is_marked c =
-    put-there c.args.g floats (out_at c.args.out.now c.args.at) (sym c.is_marked.ensures ∙ c.if-is_marked.true) (ap bits_of c.floats_in.ensures)
+    put-there c.args.g floats (out_at c.args.out.now c.args.at)
+    (sym c.is_marked.ensures ∙ c.if-is_marked.true) (ap bits_of c.floats_in.ensures)
     c.put_floats.ensures
 
 pub returns : goal.returns

@@ -6,7 +6,8 @@ use Rattle.scene_spelling.proofs.forms.put_joints.Goals as goal
 
 pub returns-then-is_marked : goal.returns-then-is_marked
 returns-then-is_marked c =
-    put-there 67 numbers (out_at c.args.out.now c.args.at) (sym c.is_marked.ensures ∙ c.if-is_marked.true) c.words_in.ensures
+    put-there 67 numbers (out_at c.args.out.now c.args.at)
+    (sym c.is_marked.ensures ∙ c.if-is_marked.true) c.words_in.ensures
     c.put_numbers.ensures
 
 pub returns : goal.returns
