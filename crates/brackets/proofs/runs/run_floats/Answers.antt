@@ -14,6 +14,7 @@ returns-then-n-cells c =
 
 pub returns : goal.returns
 returns c =
-    let any = c.if-not-any.false in
-    (unstored (of_bits binary32) c.if-n-cells.false c.count_floats.ensures.0 c.count_floats.ensures.1,
-    λ e. absurd (subst T (sym any ∙ e) tt))
+    let any = c.if-not-any.false in (
+      unstored (of_bits binary32) c.if-n-cells.false c.count_floats.ensures.0 c.count_floats.ensures.1,
+      λ e. absurd (subst T (sym any ∙ e) tt),
+    )
