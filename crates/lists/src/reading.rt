@@ -45,8 +45,8 @@ fn read_next<R: Read>(input: &mut R) -> io::Result<Next> {
     Ok(next_in(&text, count))
 }
 
-// Reads fields to the start of `out`, to the end of the input or as far as there is room. Where a read fails, the fields
-// before it stand there.
+// Reads fields to the start of `out`, to the end of the input or as far as there is room. Where a read fails, the
+// fields before it stand there.
 pub fn read_fields<R: Read>(input: &mut R, out: &mut [u32]) -> io::Result<Input>
     ensures ok { IfOk result (λ fields. Puts out fields.count) }
     ensures err { OnErr result ((n : ℕ) × Puts out n) }
