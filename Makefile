@@ -4,7 +4,7 @@
 # make test               builds and runs the C and C++ callers of harness/c/tests over it
 PREFIX = /usr/local
 LIBRARY = target/lib/libmesh3d.a
-SOURCES = $(shell find crates -name '*.rt' -o -name '*.antt') crates.txt include/mesh3d.h \
+SOURCES = $(shell find crates -name out -prune -o \( -name '*.rt' -o -name '*.antt' \) -print) crates.txt include/mesh3d.h \
 	harness/c/build harness/c/text.c
 
 $(LIBRARY): $(SOURCES)
