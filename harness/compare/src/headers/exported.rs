@@ -92,15 +92,22 @@ impl Source {
 
     /// Of a struct that is named by its crate, by a `use`, or declared here.
     fn fields(&self, name: &str) -> String {
-        let path = self.used(name).unwrap_or(name);
-        let (first, _) = path.split_once("::").unwrap_or(("crate", path));
+        let path = self.used(name).unwrap_or_else(|| String::from(name));
+        let (first, _) = path.split_once("::").unwrap_or(("crate", &path));
         let folder = match first {
             "crate" => self.folder.clone(),
             other => Path::new(ROOT).join("crates").join(other).join("src"),
         };
         let name = path.rsplit("::").next().expect("a name");
-        let head = format!("#[repr(C)]\npub struct {name} {{");
-        let mut sources = sources(folder).filter_map(|s| Some((s.text.find(&head)?, s)));
+        let head = format!("pub struct {name} {{");
+        let for_c = |text: &str, at: usize| {
+            let mut above = text[..at].lines().rev().take_while(|line| line.starts_with("#["));
+            above.any(|line| line == "#[repr(C)]")
+        };
+        let mut sources = sources(folder).filter_map(|s| {
+            let at = s.text.find(&head)?;
+            for_c(&s.text, at).then_some((at, s))
+        });
         let (at, source) = sources.next().unwrap_or_else(|| panic!("no {path} for C"));
         let (fields, _) = enclosed(&source.text[at..], '{', '}');
         let fields = fields.lines().filter_map(|line| line.split_once(": "));
@@ -108,10 +115,14 @@ impl Source {
         types.collect::<Vec<_>>().join(",")
     }
 
-    fn used(&self, name: &str) -> Option<&str> {
-        let end = format!("::{name};");
-        let lines = self.text.lines().filter_map(|l| l.strip_prefix("use "));
-        let line = { lines }.find(|line| line.ends_with(&end))?;
-        line.strip_suffix(';')
+    fn used(&self, name: &str) -> Option<String> {
+        let lines = self.text.lines();
+        let mut paths = lines.filter_map(|l| l.strip_prefix("use ")?.strip_suffix(';'));
+        paths.find_map(|path| {
+            let (first, last) = path.rsplit_once("::")?;
+            let names = last.trim_start_matches('{').trim_end_matches('}');
+            let is_there = names.split(", ").any(|n| n == name);
+            is_there.then(|| format!("{first}::{name}"))
+        })
     }
 }
