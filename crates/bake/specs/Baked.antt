@@ -1,5 +1,5 @@
 -- What `world_mesh_at` answers and leaves: the bake of the model, in lent room. Definitions only.
-use Rattle.std.specs.Prelude.{◌≡◌, ℕ, Float, length}
+use Rattle.std.specs.Prelude.{◌≡◌, ℕ, Float, length, Result, Ok, Err}
 use Rattle.borrowed.specs.Slices.{Words, Floats}
 use Rattle.borrowed.specs.Slices as borrowed
 use Rattle.model.specs.Lists.{pick, is_some}
@@ -7,6 +7,9 @@ use Rattle.model.specs.Bake as model
 use Rattle.tables.specs.Decoded.{Lent, scene_of}
 use Rattle.checks.specs.Drawn.{tables_number}
 use Rattle.bake_stages.specs.Scratch.{Slices, scratch_room, room_of, scratch_left}
+use Rattle.refusals.specs.declared.Refusal.{Refusal}
+use Rattle.refusals.specs.Drawn.{number_of}
+use Rattle.bake.specs.declared.Put.{Put}
 use Rattle.bake.specs.declared.Answer.{Answer}
 
 -- the scratch room and the three outputs (the scope's bench and sheets)
@@ -63,6 +66,17 @@ answer_of a = record {
   tangents = a.tangents;
   taken = a.taken;
 }
+
+-- what a C function answers
+abbrev pub told_by : Result Put Refusal → Answer
+told_by (Ok p) = record {
+  number = 0;
+  positions = p.lengths.positions;
+  normals = p.lengths.normals;
+  tangents = p.lengths.tangents;
+  taken = p.taken;
+}
+told_by (Err r) = record { number = number_of r; positions = 0; normals = 0; tangents = 0; taken = 0 }
 
 -- each output starts with the result and is as lent past it, and refused as lent; the scratch room is as an accepted
 -- call leaves it, or as lent after 1 to 7

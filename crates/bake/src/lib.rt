@@ -3,12 +3,21 @@
 
 ghost use Rattle.std.specs.Prelude.{◌≡◌, ◌&&◌, leb};
 ghost use Rattle.checks.specs.Drawn.{scene_lent};
-ghost use Rattle.bake.specs.Baked.{room, Baked};
+ghost use Rattle.bake.specs.Baked.{room, told_by, Baked};
 
+use refusals::Refusal;
 use shapes::Lengths;
 use tables::Header;
 
-// A refusal number, or 0; how many floats were put out, and how many entries the placing took.
+// What a bake tells: how many floats were put out, and how many entries the placing took.
+#[derive(Clone, Copy)]
+pub struct Put {
+    pub lengths: Lengths,
+    pub taken: usize,
+}
+
+// A refusal number, or 0; how many floats were put out, and how many entries the placing took: what a C function
+// answers.
 #[repr(C)]
 #[derive(Clone, Copy)]
 pub struct Answer {
@@ -19,15 +28,26 @@ pub struct Answer {
     pub taken: usize,
 }
 
-fn refused(number: u32) -> Answer
-    ensures { result ≡ record { number = number; positions = 0; normals = 0; tangents = 0; taken = 0 } }
-{
-    Answer {
-        number,
-        positions: 0,
-        normals: 0,
-        tangents: 0,
-        taken: 0,
+impl From<Result<Put, Refusal>> for Answer {
+    ghost from_gives = { λ r a. a ≡ told_by r };
+
+    fn from(r: Result<Put, Refusal>) -> Answer {
+        match r {
+            Ok(put) => Answer {
+                number: 0,
+                positions: put.lengths.positions,
+                normals: put.lengths.normals,
+                tangents: put.lengths.tangents,
+                taken: put.taken,
+            },
+            Err(e) => Answer {
+                number: u32::from(e),
+                positions: 0,
+                normals: 0,
+                tangents: 0,
+                taken: 0,
+            },
+        }
     }
 }
 
@@ -57,11 +77,11 @@ pub fn world_mesh_at<'a>(
     positions: &mut [f32],
     normals: &mut [f32],
     tangents: &mut [f32],
-) -> Answer
+) -> Result<Put, Refusal>
     ensures { Baked (scene_lent words floats node_weights mesh_weights h) node time
-        (room marks slots walk places worlds positions normals tangents) result }
+        (room marks slots walk places worlds positions normals tangents) (told_by result) }
 {
-    let number = bake_stages::first_number(
+    bake_stages::check_first(
         words,
         floats,
         node_weights,
@@ -72,20 +92,14 @@ pub fn world_mesh_at<'a>(
         walk.len() / 2,
         wire::least(marks.len() / 4, slots.len() / 10),
         wire::least(places.len(), worlds.len() / 16),
-    );
-    if number != 0 {
-        return refused(number);
-    }
+    )?;
     let taken = bake_stages::pose_and_place(
         words, floats, h, time, marks, slots, walk, places, worlds,
     );
     let mesh = bake_writing::mesh_of(words, h, node);
     let n = shapes::mesh_lengths(words, h.meshes.primitives, mesh.primitives);
     let fit = fits(n, positions.len(), normals.len(), tangents.len());
-    let late = bake_stages::late_number(words, floats, h, node, places, fit);
-    if late != 0 {
-        return refused(late);
-    }
+    bake_stages::check_late(words, floats, h, node, places, fit)?;
     bake_writing::deliver(
         words,
         floats,
@@ -101,11 +115,5 @@ pub fn world_mesh_at<'a>(
         normals,
         tangents,
     );
-    Answer {
-        number: 0,
-        positions: n.positions,
-        normals: n.normals,
-        tangents: n.tangents,
-        taken,
-    }
+    Ok(Put { lengths: n, taken })
 }

@@ -26,7 +26,7 @@ pub extern "C" fn mesh3d_bake_floats<'a>(
     ensures { Baked (scene_lent words floats node_weights mesh_weights header) node time
         (room marks slots walk places worlds positions normals tangents) result }
 {
-    bake::world_mesh_at(
+    bake::Answer::from(bake::world_mesh_at(
         words,
         floats,
         node_weights,
@@ -42,5 +42,5 @@ pub extern "C" fn mesh3d_bake_floats<'a>(
         positions,
         normals,
         tangents,
-    )
+    ))
 }

@@ -71,9 +71,8 @@ pub fn room_for(
 ) -> Room
     ensures { result ≡ room_for (scene_lent words floats node_weights mesh_weights h) node }
 {
-    let number = skin::weights_number(words, floats, node_weights, mesh_weights, h, node);
-    if number != 0 {
-        return refused(number);
+    if let Err(e) = skin::check_weights(words, floats, node_weights, mesh_weights, h, node) {
+        return refused(u32::from(e));
     }
     let mesh = bake_writing::mesh_of(words, h, node);
     let n = shapes::mesh_lengths(words, h.meshes.primitives, mesh.primitives);

@@ -1,16 +1,15 @@
 ghost use Rattle.std.specs.Prelude.{◌≡◌, ◌&&◌, List, Float, ◌<◌, ltb, get_or};
 ghost use Rattle.tables.specs.Tags.{is_marked};
+ghost use Rattle.refusals.specs.Drawn.{number_drawn};
 ghost use Rattle.checks.specs.Drawn.{lent_as, scene_lent};
 ghost use Rattle.bake_stages.specs.Numbers.{early_for, first_for, late_for};
 
 use crate::palettes::can_have_palette;
-use refusals::{
-    KEYS_OUT_OF_LINE, NO_PALETTE, NO_SUCH_NODE, NO_TIME, SHORT_OUTPUT, SHORT_SCRATCH, UNPLACED_NODE,
-};
+use refusals::Refusal;
 use tables::Header;
 
-// The number of a bake as far as 6, with room for so many entries, poses and worlds.
-fn early_number(
+// What a bake draws as far as 6, with room for so many entries, poses and worlds.
+fn check_early(
     words: &[u32],
     floats: &[f32],
     node_weights: &[f32],
@@ -20,24 +19,21 @@ fn early_number(
     walk: usize,
     poses: usize,
     worlds: usize,
-) -> u32
-    ensures { result ≡ early_for (scene_lent words floats node_weights mesh_weights h) time
+) -> Result<(), Refusal>
+    ensures { number_drawn result ≡ early_for (scene_lent words floats node_weights mesh_weights h) time
         (record { walk_room = walk; pose_slots = poses; world_slots = worlds }) }
 {
-    let drawn = checks::tables_number(words, floats, node_weights, mesh_weights, h);
-    if drawn != 0 {
-        return drawn;
-    }
+    checks::check_tables(words, floats, node_weights, mesh_weights, h)?;
     if float::is_nan(time) {
-        return NO_TIME;
+        return Err(Refusal::NoTime);
     }
     if pose::keys_out_of_line(words, floats, h) {
-        return KEYS_OUT_OF_LINE;
+        return Err(Refusal::KeysOutOfLine);
     }
     if worlds::is_short(words, h.graph, walk, poses, worlds) {
-        return SHORT_SCRATCH;
+        return Err(Refusal::ShortScratch);
     }
-    0
+    Ok(())
 }
 
 // A word as an index.
@@ -47,8 +43,8 @@ pub fn wide(x: u32) -> usize
     x as usize
 }
 
-// The number of a bake as far as 7.
-pub fn first_number(
+// What a bake draws as far as 7.
+pub fn check_first(
     words: &[u32],
     floats: &[f32],
     node_weights: &[f32],
@@ -59,11 +55,11 @@ pub fn first_number(
     walk: usize,
     poses: usize,
     worlds: usize,
-) -> u32
-    ensures { result ≡ first_for (scene_lent words floats node_weights mesh_weights h) node time
+) -> Result<(), Refusal>
+    ensures { number_drawn result ≡ first_for (scene_lent words floats node_weights mesh_weights h) node time
         (record { walk_room = walk; pose_slots = poses; world_slots = worlds }) }
 {
-    let number = early_number(
+    check_early(
         words,
         floats,
         node_weights,
@@ -73,14 +69,11 @@ pub fn first_number(
         walk,
         poses,
         worlds,
-    );
-    if number != 0 {
-        return number;
-    }
+    )?;
     if skin::has_mesh(words, h, node) {
-        return 0;
+        return Ok(());
     }
-    NO_SUCH_NODE
+    Err(Refusal::NoSuchNode)
 }
 
 // Whether a node of n has a world.
@@ -96,16 +89,16 @@ fn is_placed(places: &[u32], n: usize, node: u32) -> bool
     false
 }
 
-// The number of a bake past 7: 8, 9, 10, or 0.
-pub fn late_number(
+// What a bake draws past 7: 8, 9, 10, or nothing.
+pub fn check_late(
     words: &[u32],
     floats: &[f32],
     h: Header,
     node: u32,
     places: &[u32],
     fit: bool,
-) -> u32
-    ensures { (own mesh slots : List Float) → result
+) -> Result<(), Refusal>
+    ensures { (own mesh slots : List Float) → number_drawn result
         ≡ late_for (lent_as words.now floats.now own mesh h) node
         places.now slots fit }
 {
@@ -114,11 +107,11 @@ pub fn late_number(
         let row = tables::node_row(words, nodes, wide(node));
         if can_have_palette(words, floats, h, row.skin, places) {
             if fit {
-                return 0;
+                return Ok(());
             }
-            return SHORT_OUTPUT;
+            return Err(Refusal::ShortOutput);
         }
-        return NO_PALETTE;
+        return Err(Refusal::NoPalette);
     }
-    UNPLACED_NODE
+    Err(Refusal::UnplacedNode)
 }

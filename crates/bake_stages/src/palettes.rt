@@ -3,7 +3,6 @@ ghost use Rattle.model.specs.Lists.{is_some};
 ghost use Rattle.checks.specs.Drawn.{lent_as};
 ghost use Rattle.bake_stages.specs.Skinned.{palette_from};
 
-use skin::Joints;
 use tables::{Header, Reference};
 
 // Whether a node names no skin, or one whose palette can be made.
@@ -21,8 +20,5 @@ pub(crate) fn can_have_palette(
     if !tables::is_marked(skin.mark) {
         return true;
     }
-    match skin::palette_count(words, floats, h, skin.id, places) {
-        Joints::Count(_) => true,
-        Joints::Nothing => false,
-    }
+    skin::palette_count(words, floats, h, skin.id, places).is_some()
 }

@@ -7,6 +7,7 @@ use Prim.Native.Nat.{ℕ, zero, suc, ◌+◌, ◌*◌, ◌/◌, ◌≤◌, ◌<�
 use native.Mathlib.Omega.{arith}
 use borrow.Author.Tests.{lt-ltb, ltb-true, ltb-false, leb-true, eqb-true}
 use lib.Dec.{ltb, leb, eqb}
+use Rattle.std.proofs.Common.{Result, Ok, Err}
 use lib.Ieee.{Float, is_nan}
 use lib.ListN.{length, get_or, take, drop, replicate, length-take, get_or-eq_default}
 use lib.Seq.{take_all, take_at}
@@ -30,6 +31,7 @@ use Rattle.model.proofs.Tests.{both}
 use Rattle.model.proofs.Located.{locate-in-range}
 use Rattle.model.proofs.Numbers.{sample-accepted}
 use Rattle.model.proofs.Sampled.{sample-at, value-width}
+use Rattle.refusals.specs.declared.Refusal.{Refusal}
 use Rattle.animation.specs.declared.SampledValue.{SampledValue}
 use Rattle.animation.specs.declared.SampledValue.TheVariants as value
 use Rattle.tracks.specs.declared.Track as animation
@@ -50,7 +52,7 @@ use Rattle.checks.specs.Drawn.{tables_number}
 use Rattle.checks.proofs.Clearing.{checked}
 use Rattle.pose_slots.specs.Slots.{room}
 use Rattle.pose_slots.specs.Channels.{channel_in}
-use Rattle.pose_slots.proofs.SampledGifts.{sample-driving, answered}
+use Rattle.pose_slots.proofs.SampledGifts.{sample-driving, unanswered}
 use Rattle.pose.specs.Encoded.{gives_weights, standing_from, standing, weights_by, encoded_words}
 use Rattle.pose.proofs.EncodeLaws.{stands, stand-more, read_word}
 use Rattle.pose.proofs.WeightLaws.{standing-weights}
@@ -84,13 +86,13 @@ module _ (tr : Track) (time : Float) (g : ℕ) (lent : List Float) where
       ∙ ap some (sym (take_at value_of (drop (stride tr) lent) (stride tr) width) ∙ sym (ap (λ (a : Sampled). take a.weights a.slice) answer))
 
 module _ (floats : List Float) (row : ChannelRow) (time : Float) where
-  slice_of : (s : SampledValue) (left : List Float) → (answer_of s left).slice ≡ left
-  slice_of (value.Vec3 v) left = refl
-  slice_of (value.Quat q) left = refl
-  slice_of (value.Scalar n) left = refl
-  slice_of (value.Refused n) left = refl
+  slice_of : (s : Result SampledValue Refusal) (left : List Float) → (answer_of s left).slice ≡ left
+  slice_of (Ok (value.Vec3 v)) left = refl
+  slice_of (Ok (value.Quat q)) left = refl
+  slice_of (Ok (value.Scalar n)) left = refl
+  slice_of (Err r) left = refl
 
-  pub weighed : (t : animation.Track) (lent left : List Float) (s : SampledValue) (n : ℕ) → t ≡ track_for row → length lent ≡ 64
+  pub weighed : (t : animation.Track) (lent left : List Float) (s : Result SampledValue Refusal) (n : ℕ) → t ≡ track_for row → length lent ≡ 64
       → answer_of s left ≡ sampled (table_number floats t) (track_in floats t) time lent → (answer_of s left).weights ≡ n → length left ≡ 64 → Weighed floats row time left n
   unfolding sample_number sampled
   weighed t lent left s n e size h c kept =
@@ -144,8 +146,7 @@ module _ (floats : List Float) (row : ChannelRow) (time : Float) where
       go zero e = refl
       go (suc m) e =
           let none-there : sample (track_in floats (track_for row)) time ≡ none
-          = answered floats row time (track_for row) (replicate 64 zero32) (replicate 64 zero32) (value.Refused (suc m)) refl z number line refl
-          (sym (ap (λ (n : ℕ). sampled_or n (track_in floats (track_for row)) time (replicate 64 zero32)) e)) in
+          = unanswered floats row time (replicate 64 zero32) m z number line refl e in
           absurd (false≢true (sym (ap is_some (sample-driving row.target (property_for row.property) (track_in floats (track_for row)) time ∙ none-there)) ∙ h))
 
 module _ (l : Lent) (time : Float) where

@@ -6,7 +6,6 @@ ghost use Rattle.bake_writing.specs.Delivered.{SkinnedPutOut, NamedPutOut, Deliv
 
 use refusals::JOINT_LIMIT;
 use scene::Mat4;
-use skin::Joints;
 use tables::{Header, Reference};
 use tracks::Part;
 
@@ -19,7 +18,7 @@ fn joints_of(words: &[u32], floats: &[f32], h: Header, skin: u32, places: &[u32]
         ≡ length (or_else (skin_palette_from (lent_as words.now floats.now own mesh h) skin
         places.now slots) []) }
 {
-    let Joints::Count(n) = skin::palette_count(words, floats, h, skin, places) else {
+    let Some(n) = skin::palette_count(words, floats, h, skin, places) else {
         return 0;
     };
     n

@@ -23,10 +23,10 @@ fn posed_weights(
 {
     let t = tables::track_of(tables::channel_row(words, channels, k));
     match animation::sample(floats, t, time, out) {
-        SampledValue::Vec3(_) => 0,
-        SampledValue::Quat(_) => 0,
-        SampledValue::Scalar(count) => count,
-        SampledValue::Refused(_) => 0,
+        Ok(SampledValue::Vec3(_)) => 0,
+        Ok(SampledValue::Quat(_)) => 0,
+        Ok(SampledValue::Scalar(count)) => count,
+        Err(_) => 0,
     }
 }
 

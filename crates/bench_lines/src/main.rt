@@ -2,32 +2,25 @@
 // (docs/TABLES.md).
 #![tactic(auto)]
 
-use skin_roots::Root;
 use std::io;
 use tables::{Graph, Header, Meshes, Skins};
 use tracks::Part;
 
 // The first listing: root 0; 0 lists 1, 2; 1 lists 2. Skin 0 has the joints 1, 2, and skin 1 the joint 1: the words of
-// node 0's children serve for all of these lists. What is not set is 0.
-fn first_listing() -> [u32; 67] {
-    let mut words = [0u32; 67];
-    // Children of nodes 0 and 1.
-    words[2] = 48;
-    words[3] = 2;
-    words[18] = 49;
-    words[19] = 1;
-    // The list; behind it stands the root, 0.
-    words[48] = 1;
-    words[49] = 2;
-    // The skeleton of skin 1.
-    words[55] = 1;
-    // Joints of skeletons 0 and 1.
-    words[59] = 48;
-    words[60] = 2;
-    words[63] = 48;
-    words[64] = 1;
-    words
-}
+// node 0's children serve for all of these lists.
+static FIRST_LISTING: [u32; 67] = [
+    0, 0, 48, 2, 0, 0, 0, 0, 0, 0, 0, 0, 0, 0, 0, 0, // node 0
+    0, 0, 49, 1, 0, 0, 0, 0, 0, 0, 0, 0, 0, 0, 0, 0, // node 1
+    0, 0, 0, 0, 0, 0, 0, 0, 0, 0, 0, 0, 0, 0, 0, 0, // node 2
+    1, 2, 0, // the list, and the root
+    0, 0, 0, 0, // skin 0, of skeleton 0
+    1, 0, 0, 0, // skin 1, of skeleton 1
+    48, 2, 0, 0, // the joints of skeleton 0
+    48, 1, 0, 0, // the joints of skeleton 1
+];
+
+// The base transforms of all nodes.
+static BASE: [f32; 10] = [0.0, 0.0, 0.0, 0.0, 0.0, 0.0, 1.0, 1.0, 1.0, 1.0];
 
 fn part(at: usize, count: usize) -> Part {
     Part { at, count }
@@ -54,25 +47,15 @@ fn header() -> Header {
     }
 }
 
-fn print_root(out: &impl Print, root: Root) -> io::Result<()> {
-    if root.number == 0 {
-        println!(out; "root {}", root.node)
-    } else {
-        println!(out; "refused with {}", root.number)
+fn print_root(out: &impl Print, what: &str, skin: u32) -> io::Result<()> {
+    match skin_roots::skin_root(&FIRST_LISTING, &BASE, &[], &[], header(), skin) {
+        Ok(root) => println!(out; "{what}: root {root}"),
+        Err(refusal) => println!(out; "{what}: refused with {}", u32::from(refusal)),
     }
-}
-
-// The base transforms of all nodes are the first ten floats. There are no weights, so any slice does for them.
-fn root_of(words: &[u32], floats: &[f32], skin: u32) -> Root {
-    skin_roots::skin_root(words, floats, floats, floats, header(), skin)
 }
 
 fn main(rt: HostRuntime) -> io::Result<()> {
     let out = rt.stdout();
-    let words = first_listing();
-    let floats = [0.0f32, 0.0, 0.0, 0.0, 0.0, 0.0, 1.0, 1.0, 1.0, 1.0];
-    print!(out; "Joints 1, 2 of the first listing: ")?;
-    print_root(&out, root_of(&words, &floats, 0))?;
-    print!(out; "Joint 1 alone: ")?;
-    print_root(&out, root_of(&words, &floats, 1))
+    print_root(&out, "Joints 1, 2 of the first listing", 0)?;
+    print_root(&out, "Joint 1 alone", 1)
 }

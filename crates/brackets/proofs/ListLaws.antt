@@ -2,11 +2,11 @@
 use mathlib.Core.Path.{◌≡◌, refl, sym, ap, subst, ◌∙◌}
 use mathlib.Core.Bool.{Bool, true, ◌&&◌, and-true, and_assoc}
 use mathlib.Core.List.{List, [], ◌∷◌, map}
-use Prim.Native.Nat.{ℕ, suc, ◌+◌, ◌-◌, ◌≤◌, ◌<◌}
+use Prim.Native.Nat.{ℕ, zero, suc, ◌+◌, ◌-◌, ◌≤◌, ◌<◌}
 use native.Mathlib.Omega.{arith}
 use borrow.Author.Tests.{ne_eqb}
 use lib.Dec.{eqb}
-use lib.ListN.{length, get_or, drop}
+use lib.ListN.{length, get_or, drop, drop_of_length-le}
 use lib.Seq.{sets, length-sets}
 use Rattle.model.specs.Lists.{pick, every, foldl}
 use Rattle.grammar.specs.Digits.{Sort, numbers, floats, base_of, digits_of, items_text}
@@ -20,7 +20,7 @@ use Rattle.brackets.specs.Met.{meets}
 use Rattle.brackets.specs.Read.{Passed, ItemRead, ItemsRead, one_more, listed_as, items_at}
 use Rattle.brackets.specs.Runs.{RestRead}
 use Rattle.brackets.proofs.MeetingLaws.{meets-append}
-use Rattle.brackets.proofs.ReadingLaws.{stay, further, byte-here, items-off, item_on, item-forth}
+use Rattle.brackets.proofs.ReadingLaws.{stay, further, byte-here, in-text, items-off, item_on, item-forth}
 
 -- ---- what is told of items
 abbrev pub none_told : Told
@@ -85,26 +85,28 @@ outcome f s text g cells k m t = record {
 }
 
 -- what is still to be read makes up what was to be read
-pub record ItemsGoing {A : Type 0} (f : ℕ → A) (s : Sort) (text : List ℕ) (at n all : ℕ) (met : Met) (t₀ : Told)
-    (lent cells : List A) (i k : ℕ) (m : Met) (t : Told) (left : ℕ) : Type 0 where
-  same : outcome f s text (items_in left (base_of s) (drop i text)) cells k m t
-      ≡ outcome f s text (items_in all (base_of s) (drop at text)) lent n met t₀
+pub record ItemsGoing {A : Type 0} (f : ℕ → A) (s : Sort) (text : List ℕ) (at n : ℕ) (met : Met) (t₀ : Told)
+    (lent cells : List A) (i k : ℕ) (m : Met) (t : Told) : Type 0 where
+  same : outcome f s text (items_in (length text - t.count) (base_of s) (drop i text)) cells k m t
+      ≡ outcome f s text (items_in (length text - t₀.count) (base_of s) (drop at text)) lent n met t₀
   passed : Passed text at i (drop i text)
-  pub turns : t.count + left ≡ length text
-  few : at + t.count ≤ i + t₀.count
+  pub turns : t.count ≤ length text
+  pub few : at + t.count ≤ i + t₀.count
+  pub start : t₀.count ≤ at
 
-module _ {A : Type 0} {f : ℕ → A} {s : Sort} {text : List ℕ} {at n all : ℕ} {met : Met} {t₀ : Told}
-    {lent : List A} where
-  pub items-start : t₀.count + all ≡ length text → ItemsGoing f s text at n all met t₀ lent lent at n met t₀ all
-  items-start h = record { same = refl; passed = stay text at; turns = h; few = omega arith }
+module _ {A : Type 0} {f : ℕ → A} {s : Sort} {text : List ℕ} {at n : ℕ} {met : Met} {t₀ : Told} {lent : List A} where
+  pub items-start : t₀.count ≤ length text → t₀.count ≤ at
+      → ItemsGoing f s text at n met t₀ lent lent at n met t₀
+  items-start h o = record { same = refl; passed = stay text at; turns = h; few = omega arith; start = o }
 
-  module _ {cells : List A} {i k : ℕ} {m : Met} {t : Told} {left : ℕ}
-      (g : ItemsGoing f s text at n all met t₀ lent cells i k m t left) where
+  module _ {cells : List A} {i k : ℕ} {m : Met} {t : Told}
+      (g : ItemsGoing f s text at n met t₀ lent cells i k m t) where
     pub items-length : length cells ≡ length lent
     items-length = simp length-sets at (ap (λ (o : Outcome A). length o.cells) g.same)
 
-    items-end : (next : ℕ) (r : List ℕ) → items_in left (base_of s) (drop i text) ≡ got [] r → Passed text i next r
-        → RestRead f s text at n all met t₀ lent cells (listed_as t next m)
+    items-end : (next : ℕ) (r : List ℕ) → items_in (length text - t.count) (base_of s) (drop i text) ≡ got [] r
+        → Passed text i next r
+        → RestRead f s text at n (length text - t₀.count) met t₀ lent cells (listed_as t next m)
     unfolding foldl items_text meets
     items-end next r z p =
         let e = ap (λ (w : Got (List ℕ)). outcome f s text w cells k m t) (sym z) ∙ g.same in
@@ -116,46 +118,54 @@ module _ {A : Type 0} {f : ℕ → A} {s : Sort} {text : List ℕ} {at n all : �
           few = omega arith;
         }
 
-    -- a byte other than a space ends the items
-    pub items-close : {next : ℕ} {r : Listed} → 0 < left → (get_or text i 0 ≡ 32 → ⊥)
-        → Passed text i next (drop 1 (drop i text)) → r ≡ listed_as t next m
-        → RestRead f s text at n all met t₀ lent cells r
-    items-close {next} h d p q =
-        let z = items-off (base_of s) left (drop i text) h (λ e. d (byte-here text i ∙ e)) in
-        rw q (items-end next (drop 1 (drop i text)) z p)
-
-    -- there cannot be more items than bytes
-    pub items-out : {r : Listed} → left ≤ 0 → r ≡ listed_as t i m → RestRead f s text at n all met t₀ lent cells r
+    -- no more items than bytes
+    off : (left : ℕ) → t.count + left ≡ length text → (get_or text i 0 ≡ 32 → ⊥)
+        → items_in left (base_of s) (drop i text) ≡ got [] (drop 1 (drop i text))
     unfolding items_in
-    items-out h q =
-        let none : left ≡ 0 = omega arith in
-        let z = ap (λ (k : ℕ). items_in k (base_of s) (drop i text)) none in
-        rw q (items-end i (drop i text) z (stay text i))
+    off zero e d =
+        let none : drop i text ≡ [] = drop_of_length-le text (omega (arith, g.few, g.start)) in
+        ap (λ (l : List ℕ). got [] l) (none ∙ sym (ap (drop 1) none))
+    off (suc left) e d =
+        items-off (base_of s) (suc left) (drop i text) (omega arith) (λ z. d (byte-here text i ∙ z))
 
-    pub items_more : {r : Item} {next : List A} {j : ℕ} {u : Told} → 0 < left → get_or text i 0 ≡ 32
+    -- a byte other than a space ends the items
+    pub items-close : {next : ℕ} {r : Listed} → (get_or text i 0 ≡ 32 → ⊥)
+        → Passed text i next (drop 1 (drop i text)) → r ≡ listed_as t next m
+        → RestRead f s text at n (length text - t₀.count) met t₀ lent cells r
+    items-close {next} d p q =
+        let left = length text - t.count in
+        let e : t.count + left ≡ length text = omega (arith, g.turns) in
+        rw q (items-end next (drop 1 (drop i text)) (off left e d) p)
+
+    pub items_more : {r : Item} {next : List A} {j : ℕ} {u : Told} → get_or text i 0 ≡ 32
         → ItemRead s text i m r → ((xs : List A) → sets next j xs ≡ sets cells k (f r.value ∷ xs))
-        → u ≡ one_more s t r.value
-        → ItemsGoing f s text at n all met t₀ lent next r.next j r.met u (left - 1)
+        → u ≡ one_more s t r.value → ItemsGoing f s text at n met t₀ lent next r.next j r.met u
     unfolding foldl items_text
-    items_more {r} h e w p q =
+    items_more {r} {next} {j} {u} e w p q =
+        let left = length text - t.count in
         let then = items_in (left - 1) (base_of s) (drop r.next text) in
         let one : List ℕ = 32 ∷ digits_of s r.value in
         let others = items_text s then.made in
         let compared = ap (meets text others) w.compared ∙ sym (meets-append text one others m) in
         let count = ap (λ (v : Told). v.count) q in
         let forth = item-forth e w in
+        let inside = in-text text i e in
+        let some : 0 < left = omega (arith, g.few, g.start, inside) in
+        let fewer : length text - u.count ≡ left - 1 = omega (arith, count) in
         record {
           same =
-              (λ l. record {
+              (λ l. outcome f s text (items_in (fewer l) (base_of s) (drop r.next text)) next j r.met u)
+              ∙ (λ l. record {
                 rest = then.rest;
                 told = tells_all s (q l) then.made;
                 met = compared l;
                 cells = p (map f then.made) l;
               })
-              ∙ ap (λ (o : Got (List ℕ)). outcome f s text o cells k m t) (sym (item_on e w left h)) ∙ g.same;
+              ∙ ap (λ (o : Got (List ℕ)). outcome f s text o cells k m t) (sym (item_on e w left some)) ∙ g.same;
           passed = further g.passed (record { left = refl; forth = w.passed.forth; inside = w.passed.inside });
-          turns = omega arith;
-          few = omega arith;
+          turns = omega (arith, count, some);
+          few = omega (arith, g.few, count, forth);
+          start = g.start;
         }
 
 -- ---- all of them
@@ -176,3 +186,10 @@ whole-read {s = s} {text} {at} h =
       filled = h.filled;
       few = omega (arith, h.few);
     }
+
+pub whole-rest : {A : Type 0} {f : ℕ → A} {s : Sort} {text : List ℕ} {at n : ℕ} {met : Met} {lent cells : List A}
+    {r : Listed} → RestRead f s text at n (length text - 0) met none_told lent cells r
+    → ItemsRead f s text at n met lent cells r
+whole-rest {f = f} {s} {text} {at} {n} {met} {lent} {cells} {r} h =
+    let all : length text - 0 ≡ length text = omega arith in
+    whole-read (subst (λ (k : ℕ). RestRead f s text at n k met none_told lent cells r) all h)

@@ -185,16 +185,6 @@ pub stored-length : {A : Type 0} {f : ℕ → A} {s : Sort} {text : List ℕ} {a
     → RunRead f s text at n lent cells r → length cells ≡ length lent
 stored-length g = simp length-sets at (ap length (g.filled []))
 
--- of which nothing is stored
-pub unstored : {A : Type 0} (f : ℕ → A) {s : Sort} {text : List ℕ} {at n : ℕ} {lent : List A} {r : Run}
-    → length lent ≤ n → RunStands s text at r.next r.count → r.cell ≡ n → RunRead f s text at n lent lent r
-unstored f {s} {text} {at} {n} {lent} {r} h g e = record {
-  run = g;
-  filled = λ xs.
-      ap (λ (k : ℕ). sets lent k xs) e ∙ sets-out lent n xs h
-      ∙ sym (sets-out lent n (map f (front s text at r.count) ++ xs) h);
-}
-
 -- ---- what is told of a run
 pub told_none : (s : Sort) (text : List ℕ) (at : ℕ) {count : ℕ} → count ≤ 0
     → record { count = count; first = 0; second = 0; sorted = true } ≡ told_run count (front s text at count)

@@ -19,7 +19,7 @@ use Rattle.brackets.specs.Read.{Passed, one_more}
 -- a float that is there stands as it is written
 abbrev pub PlainAt : List ℕ → ℕ → Standing → Type 0
 PlainAt text from r =
-    r.written ≡ true → ItemStands floats text from r.next r.value × (is_float r.value ≡ true)
+    ItemStands floats text from r.next r.value × (is_float r.value ≡ true)
 
 -- the first so many items from a place on
 abbrev pub front : Sort → List ℕ → ℕ → ℕ → List ℕ

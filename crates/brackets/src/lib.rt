@@ -2,6 +2,7 @@
 // compared with the text of what was read.
 #![tactic(auto)]
 
+mod cells;
 mod lists;
 mod meeting;
 mod reading;
@@ -11,7 +12,8 @@ pub use lists::{read_floats, read_numbers};
 pub use meeting::{judge, meet, meet_bytes, meet_item};
 pub use reading::{behind, name};
 
-// How far a text is the one that is expected, and whether nothing has departed yet.
+// How far a text is the one that is expected, and whether nothing has departed yet: the place is told in both cases, so
+// that a `Result` would only say twice what it holds.
 #[derive(Clone, Copy)]
 pub struct Met {
     pub at: usize,

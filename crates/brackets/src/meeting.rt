@@ -28,10 +28,8 @@ pub fn meet_bytes(text: &[u8], m: Met, bytes: &[u8]) -> Met
     ensures { result ≡ meets text.now bytes.now m }
 {
     let mut n = m;
-    let mut i = 0;
-    while i < bytes.len() {
-        n = meet(text, n, bytes[i]);
-        i += 1;
+    for b in bytes {
+        n = meet(text, n, *b);
     }
     n
 }

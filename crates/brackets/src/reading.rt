@@ -1,11 +1,10 @@
 ghost use Rattle.std.specs.Prelude.{◌≡◌, ◌&&◌, [], ◌∷◌, ◌≤◌, ◌<◌, get_or, drop};
-ghost use Rattle.std.specs.Float.{binary32};
-ghost use Rattle.std.specs.Float.Ieee.{of_bits};
-ghost use Rattle.grammar.specs.Digits.{numbers, floats, base_of, sort_for};
+ghost use Rattle.grammar.specs.Digits.{base_of, sort_for};
 ghost use Rattle.grammar.specs.Shape.{is_float, sorted};
 ghost use Rattle.grammar.specs.Parsed.{digit_of, word_in, name_in};
-ghost use Rattle.brackets.specs.Read.{Passed, WordRead, ItemRead, Stores, one_more};
+ghost use Rattle.brackets.specs.Read.{Passed, WordRead, ItemRead, one_more};
 
+use crate::cells::Cell;
 use crate::{Item, Met, Spelling, Told};
 
 fn digit(b: u8) -> u64
@@ -41,16 +40,17 @@ fn word(text: &[u8], at: usize, float: bool) -> Spelling
 {
     let base = base_of(float);
     let mut value: u64 = 0;
-    let mut i = at;
-    while i < text.len() {
-        let b = text[i];
+    let mut next = at;
+    // A `while`, since the place at which it ends is answered, also where it begins behind the text.
+    while next < text.len() {
+        let b = text[next];
         if b < 48 {
-            return Spelling { value, next: i };
+            return Spelling { value, next };
         }
         value = value % 0x1_0000_0000 * base + digit(b);
-        i += 1;
+        next += 1;
     }
-    Spelling { value, next: i }
+    Spelling { value, next }
 }
 
 // The name behind a bracket at a place, told by its code, 0 where there is none.
@@ -86,58 +86,20 @@ fn take_item(text: &[u8], at: usize, float: bool, met: Met) -> Item
     }
 }
 
-// A float behind a space: at once where it stands as it is written, else as any item.
-pub(crate) fn take_float(text: &[u8], at: usize, met: Met) -> Item
+// An item behind a space: at once where it stands as it is written.
+pub(crate) fn take<C: Cell>(text: &[u8], at: usize, met: Met) -> Item
     requires { get_or text.now at 0 ≡ 32 }
-    ensures { ItemRead floats text.now at met result }
+    ensures { ItemRead C.sort text.now at met result }
 {
-    let d = digits::float_at(text, at + 1);
-    if d.written {
+    let float = C::is_float();
+    if let Some(d) = C::item_at(text, at + 1) {
         return Item {
             value: d.value,
             next: d.next,
-            met: crate::meeting::meet_there(text, met, at, d.next, true, d.value),
+            met: crate::meeting::meet_there(text, met, at, d.next, float, d.value),
         };
     }
-    take_item(text, at, true, met)
-}
-
-// A number behind a space, likewise.
-pub(crate) fn take_number(text: &[u8], at: usize, met: Met) -> Item
-    requires { get_or text.now at 0 ≡ 32 }
-    ensures { ItemRead numbers text.now at met result }
-{
-    let d = digits::number_at(text, at + 1);
-    if d.written {
-        return Item {
-            value: d.value,
-            next: d.next,
-            met: crate::meeting::meet_there(text, met, at, d.next, false, d.value),
-        };
-    }
-    take_item(text, at, false, met)
-}
-
-// Stores a number where there is room, and answers the place behind it.
-pub(crate) fn store_number(cells: &mut [u32], k: usize, x: u32) -> usize
-    ensures { Stores (λ y. y) cells k x result }
-{
-    if k < cells.len() {
-        cells[k] = x;
-        return k + 1;
-    }
-    k
-}
-
-// The same for the float with these bits.
-pub(crate) fn store_float(cells: &mut [f32], k: usize, x: u32) -> usize
-    ensures { Stores (of_bits binary32) cells k x result }
-{
-    if k < cells.len() {
-        cells[k] = float::from_bits(x);
-        return k + 1;
-    }
-    k
+    take_item(text, at, float, met)
 }
 
 // Whether all are of their sort, with one item more.

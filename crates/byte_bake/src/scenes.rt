@@ -2,7 +2,8 @@ ghost use Rattle.std.specs.Prelude.{◌≡◌, length};
 ghost use Rattle.std.specs.Float.{binary32};
 ghost use Rattle.std.specs.Float.Ieee.{of_bits};
 ghost use Rattle.bake.specs.Baked.{room};
-ghost use Rattle.lent_bytes.specs.Bytes.{bytes_lent, scene_bytes, decoding_room, drawn_by, decoded_to, standing_in, Within};
+ghost use Rattle.lent_bytes.specs.Bytes.{bytes_lent, scene_bytes, decoding_room, drawn_by, decoded_to, standing_in};
+ghost use Rattle.lent_bytes.specs.Bytes.{Within};
 ghost use Rattle.byte_baking.specs.Output.{byte_output};
 ghost use Rattle.byte_baking.specs.Baked.{BakedIn};
 ghost use Rattle.byte_bake.specs.Baked.{BakedBytes};
@@ -156,8 +157,8 @@ pub extern "C" fn mesh3d_bake(
 {
     let time = float::from_bits(time);
     let count = lent_bytes::count_of(floats, node_weights, mesh_weights);
-    let drawn = lent_bytes::room_number(words.len() / 4, count, word_room.len(), float_room.len());
-    let number = byte_checks::first_number(
+    let drawn = lent_bytes::check_room(words.len() / 4, count, word_room.len(), float_room.len());
+    let number = refusals::number(byte_checks::check_first(
         words,
         floats,
         node_weights,
@@ -169,7 +170,7 @@ pub extern "C" fn mesh3d_bake(
         wire::least(marks.len() / 4, slots.len() / 10),
         wire::least(places.len(), worlds.len() / 16),
         drawn,
-    );
+    ));
     if number != 0 {
         return Answer {
             number,

@@ -47,7 +47,7 @@ pub fn bake_over<'a>(
     let p = wire::least(position_floats.len(), positions.len() / 4);
     let n = wire::least(normal_floats.len(), normals.len() / 4);
     let t = wire::least(tangent_floats.len(), tangents.len() / 4);
-    let a = bake::world_mesh_at(
+    let a = Answer::from(bake::world_mesh_at(
         words,
         floats,
         node_weights,
@@ -63,7 +63,7 @@ pub fn bake_over<'a>(
         &mut position_floats[..p],
         &mut normal_floats[..n],
         &mut tangent_floats[..t],
-    );
+    ));
     write_start(a.positions, position_floats, positions);
     write_start(a.normals, normal_floats, normals);
     write_start(a.tangents, tangent_floats, tangents);

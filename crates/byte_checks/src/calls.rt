@@ -1,5 +1,6 @@
-// The numbers of calls on scenes in bytes: what scene and time draw, then the rooms, then a node without a mesh.
+// What calls on scenes in bytes draw: what scene and time draw, then the rooms, then a node without a mesh.
 ghost use Rattle.std.specs.Prelude.{◌≡◌};
+ghost use Rattle.refusals.specs.Drawn.{number_drawn};
 ghost use Rattle.wire.specs.Bytes.{words_in};
 ghost use Rattle.checks.specs.declared.Table.TheVariants as table;
 ghost use Rattle.skin.specs.Weights.{Meshed};
@@ -7,34 +8,34 @@ ghost use Rattle.lent_bytes.specs.Bytes.{bytes_lent};
 ghost use Rattle.byte_checks.specs.Bytes.{TableThere};
 ghost use Rattle.byte_checks.specs.Numbers.{room_in, place_in, early_in, first_in};
 
-use crate::lines::scene_number;
-use crate::numbers::{child_entries, tables_number};
+use crate::lines::check_scene;
+use crate::numbers::{check_tables, child_entries};
 use crate::records::node_row;
-use refusals::{NO_SUCH_NODE, SHORT_SCRATCH};
+use refusals::Refusal;
 use tables::{Graph, Header};
 
 // What room for so many entries, poses and worlds draws, and then the decoding room.
-fn room_number(
+fn check_room(
     words: &[u8],
     graph: Graph,
     walk: usize,
     poses: usize,
     worlds: usize,
-    drawn: u32,
-) -> u32
+    drawn: Result<(), Refusal>,
+) -> Result<(), Refusal>
     requires { TableThere words.now graph.nodes table.Nodes }
-    ensures { result ≡ room_in drawn (words_in words.now) graph walk poses worlds }
+    ensures { number_drawn result ≡ room_in (number_drawn drawn) (words_in words.now) graph walk poses worlds }
 {
     let children = child_entries(words, graph.nodes);
     if worlds::is_short_for(children, graph, walk, poses, worlds) {
-        return SHORT_SCRATCH;
+        return Err(Refusal::ShortScratch);
     }
     drawn
 }
 
-// The number of a placing of a scene in bytes, with room for so many entries, poses and worlds; `drawn` is what the
-// decoding room draws, 6 or 0.
-pub fn place_number(
+// What a placing of a scene in bytes draws, with room for so many entries, poses and worlds; `drawn` is what the
+// decoding room draws.
+pub fn check_place(
     words: &[u8],
     floats: &[u8],
     node_weights: &[u8],
@@ -43,20 +44,17 @@ pub fn place_number(
     walk: usize,
     poses: usize,
     worlds: usize,
-    drawn: u32,
-) -> u32
-    ensures { result ≡ place_in drawn (bytes_lent words floats node_weights mesh_weights h)
+    drawn: Result<(), Refusal>,
+) -> Result<(), Refusal>
+    ensures { number_drawn result ≡ place_in (number_drawn drawn) (bytes_lent words floats node_weights mesh_weights h)
         (record { walk_room = walk; pose_slots = poses; world_slots = worlds }) }
 {
-    let of_tables = tables_number(words, floats, node_weights, mesh_weights, h);
-    if of_tables != 0 {
-        return of_tables;
-    }
-    room_number(words, h.graph, walk, poses, worlds, drawn)
+    check_tables(words, floats, node_weights, mesh_weights, h)?;
+    check_room(words, h.graph, walk, poses, worlds, drawn)
 }
 
-// The number of a bake of a scene in bytes as far as 6.
-fn early_number(
+// What a bake of a scene in bytes draws as far as 6.
+fn check_early(
     words: &[u8],
     floats: &[u8],
     node_weights: &[u8],
@@ -66,16 +64,14 @@ fn early_number(
     walk: usize,
     poses: usize,
     worlds: usize,
-    drawn: u32,
-) -> u32
-    ensures { result ≡ early_in drawn (bytes_lent words floats node_weights mesh_weights h) time
+    drawn: Result<(), Refusal>,
+) -> Result<(), Refusal>
+    ensures { number_drawn result ≡ early_in (number_drawn drawn)
+        (bytes_lent words floats node_weights mesh_weights h) time
         (record { walk_room = walk; pose_slots = poses; world_slots = worlds }) }
 {
-    let of_scene = scene_number(words, floats, node_weights, mesh_weights, h, time);
-    if of_scene != 0 {
-        return of_scene;
-    }
-    room_number(words, h.graph, walk, poses, worlds, drawn)
+    check_scene(words, floats, node_weights, mesh_weights, h, time)?;
+    check_room(words, h.graph, walk, poses, worlds, drawn)
 }
 
 // Whether a node has a mesh.
@@ -91,8 +87,8 @@ fn has_mesh(words: &[u8], h: Header, node: u32) -> bool
     skin::row_has_mesh(node_row(words, nodes, i), h)
 }
 
-// The number of a bake of a scene in bytes as far as 7.
-pub fn first_number(
+// What a bake of a scene in bytes draws as far as 7.
+pub fn check_first(
     words: &[u8],
     floats: &[u8],
     node_weights: &[u8],
@@ -103,12 +99,13 @@ pub fn first_number(
     walk: usize,
     poses: usize,
     worlds: usize,
-    drawn: u32,
-) -> u32
-    ensures { result ≡ first_in drawn (bytes_lent words floats node_weights mesh_weights h) node time
+    drawn: Result<(), Refusal>,
+) -> Result<(), Refusal>
+    ensures { number_drawn result ≡ first_in (number_drawn drawn)
+        (bytes_lent words floats node_weights mesh_weights h) node time
         (record { walk_room = walk; pose_slots = poses; world_slots = worlds }) }
 {
-    let early = early_number(
+    check_early(
         words,
         floats,
         node_weights,
@@ -119,12 +116,9 @@ pub fn first_number(
         poses,
         worlds,
         drawn,
-    );
-    if early != 0 {
-        return early;
-    }
+    )?;
     if has_mesh(words, h, node) {
-        return 0;
+        return Ok(());
     }
-    NO_SUCH_NODE
+    Err(Refusal::NoSuchNode)
 }

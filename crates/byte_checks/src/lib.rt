@@ -6,6 +6,6 @@ mod lines;
 mod numbers;
 mod records;
 
-pub use calls::{first_number, place_number};
-pub use lines::scene_number;
-pub use numbers::tables_number;
+pub use calls::{check_first, check_place};
+pub use lines::check_scene;
+pub use numbers::check_tables;

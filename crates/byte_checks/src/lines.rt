@@ -1,5 +1,6 @@
 // Keys that are out of line, and what scene and time draw.
 ghost use Rattle.std.specs.Prelude.{◌≡◌};
+ghost use Rattle.refusals.specs.Drawn.{number_drawn};
 ghost use Rattle.model.specs.Lists.{any_of};
 ghost use Rattle.wire.specs.Bytes.{words_in, floats_in};
 ghost use Rattle.tracks.specs.Tracks.{table_number};
@@ -11,9 +12,9 @@ ghost use Rattle.lent_bytes.specs.Bytes.{bytes_lent};
 ghost use Rattle.byte_checks.specs.Bytes.{TableThere};
 ghost use Rattle.byte_checks.specs.Scene.{scene_number};
 
-use crate::numbers::tables_number;
+use crate::numbers::check_tables;
 use crate::records::channel_row;
-use refusals::{KEYS_OUT_OF_LINE, NO_TIME};
+use refusals::Refusal;
 use tables::{ChannelRow, Header};
 use tracks::Part;
 
@@ -23,7 +24,8 @@ fn is_out_of_line(floats: &[u8], row: ChannelRow, n: usize) -> bool
     ensures { result ≡ out_of_line n (channel_in (floats_in floats.now) row) }
 {
     if (row.target as usize) < n {
-        return byte_tracks::sample_number(floats, tables::track_of(row), 0.0) == KEYS_OUT_OF_LINE;
+        return byte_tracks::check_sample(floats, tables::track_of(row), 0.0)
+            == Err(Refusal::KeysOutOfLine);
     }
     false
 }
@@ -36,37 +38,32 @@ fn some_out_of_line(words: &[u8], floats: &[u8], channels: Part, n: usize) -> bo
         (channels_in (words_in words.now) (floats_in floats.now) channels) }
 {
     let count = channels.count;
-    let mut k: usize = 0;
-    while k < count {
+    for k in 0..count {
         if is_out_of_line(floats, channel_row(words, channels, k), n) {
             return true;
         }
-        k += 1;
     }
     false
 }
 
 // What scene and time draw, whatever room is lent.
-pub fn scene_number(
+pub fn check_scene(
     words: &[u8],
     floats: &[u8],
     node_weights: &[u8],
     mesh_weights: &[u8],
     h: Header,
     time: f32,
-) -> u32
-    ensures { result ≡ scene_number (bytes_lent words floats node_weights mesh_weights h) time }
+) -> Result<(), Refusal>
+    ensures { number_drawn result ≡ scene_number (bytes_lent words floats node_weights mesh_weights h) time }
 {
-    let drawn = tables_number(words, floats, node_weights, mesh_weights, h);
-    if drawn != 0 {
-        return drawn;
-    }
+    check_tables(words, floats, node_weights, mesh_weights, h)?;
     if float::is_nan(time) {
-        return NO_TIME;
+        return Err(Refusal::NoTime);
     }
     let graph = h.graph;
     if some_out_of_line(words, floats, h.channels, graph.nodes.count) {
-        return KEYS_OUT_OF_LINE;
+        return Err(Refusal::KeysOutOfLine);
     }
-    0
+    Ok(())
 }

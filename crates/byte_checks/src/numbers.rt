@@ -1,28 +1,30 @@
 // What the tables draw: 1, 2 or 0, as `checks` says it of a scene in words.
 ghost use Rattle.std.specs.Prelude.{◌≡◌};
+ghost use Rattle.refusals.specs.Drawn.{number_drawn};
 ghost use Rattle.wire.specs.Bytes.{words_in};
 ghost use Rattle.checks.specs.declared.Table.TheVariants as table;
-ghost use Rattle.checks.specs.Drawn.{ByCount, whole_number, capped_entries, children_number, listed_number, tables_number};
+ghost use Rattle.checks.specs.Drawn.{ByCount, whole_number, capped_entries, children_number, listed_number};
+ghost use Rattle.checks.specs.Drawn.{tables_number};
 ghost use Rattle.lent_bytes.specs.Bytes.{bytes_lent};
 ghost use Rattle.byte_checks.specs.Bytes.{TableThere};
 
-use crate::records::{child_count, rows_number};
+use crate::records::{check_rows, child_count};
 use checks::{Table, lower};
-use refusals::OUT_OF_TABLE;
+use refusals::Refusal;
 use row_checks::Sizes;
 use tables::Header;
 use tracks::Part;
 
 // What a table with its records draws. Records are looked at only where the table has them.
-fn whole_number(words: &[u8], s: Sizes, h: Header, k: Table) -> u32
-    ensures { ByCount s result (λ floats. whole_number (words_in words.now) floats s h k) }
+fn check_whole(words: &[u8], s: Sizes, h: Header, k: Table) -> Result<(), Refusal>
+    ensures { ByCount s (number_drawn result) (λ floats. whole_number (words_in words.now) floats s h k) }
 {
     let t = checks::table_of(h, k);
-    let number = checks::table_number(words.len() / 4, t, k);
-    if number == OUT_OF_TABLE {
-        return OUT_OF_TABLE;
+    let drawn = checks::check_table(words.len() / 4, t, k);
+    if drawn == Err(Refusal::OutOfTable) {
+        return drawn;
     }
-    lower(number, rows_number(words, s, t, k))
+    lower(drawn, check_rows(words, s, t, k))
 }
 
 // The child entries of all nodes, as far as one above their limit.
@@ -32,44 +34,42 @@ pub(crate) fn child_entries(words: &[u8], nodes: Part) -> usize
 {
     let count = nodes.count;
     let mut sum: usize = 0;
-    let mut i: usize = 0;
-    while i < count {
+    for i in 0..count {
         sum = checks::capped(sum, child_count(words, nodes, i));
-        i += 1;
     }
     sum
 }
 
 // What they draw.
-fn children_number(words: &[u8], nodes: Part) -> u32
+fn check_children(words: &[u8], nodes: Part) -> Result<(), Refusal>
     requires { TableThere words.now nodes table.Nodes }
-    ensures { result ≡ children_number (words_in words.now) nodes }
+    ensures { number_drawn result ≡ children_number (words_in words.now) nodes }
 {
-    checks::entries_number(child_entries(words, nodes))
+    checks::check_entries(child_entries(words, nodes))
 }
 
 // What all tables but the nodes draw.
-fn listed_number(words: &[u8], s: Sizes, h: Header) -> u32
-    ensures { ByCount s result (λ floats. listed_number (words_in words.now) floats s h) }
+fn check_listed(words: &[u8], s: Sizes, h: Header) -> Result<(), Refusal>
+    ensures { ByCount s (number_drawn result) (λ floats. listed_number (words_in words.now) floats s h) }
 {
-    let skeletons = whole_number(words, s, h, Table::Skeletons);
-    let skins = lower(whole_number(words, s, h, Table::Skins), skeletons);
-    let between = lower(whole_number(words, s, h, Table::InBetweens), skins);
-    let targets = lower(whole_number(words, s, h, Table::Targets), between);
-    let shapes = lower(whole_number(words, s, h, Table::Primitives), targets);
-    let meshes = lower(whole_number(words, s, h, Table::Meshes), shapes);
-    lower(whole_number(words, s, h, Table::Channels), meshes)
+    let skeletons = check_whole(words, s, h, Table::Skeletons);
+    let skins = lower(check_whole(words, s, h, Table::Skins), skeletons);
+    let between = lower(check_whole(words, s, h, Table::InBetweens), skins);
+    let targets = lower(check_whole(words, s, h, Table::Targets), between);
+    let shapes = lower(check_whole(words, s, h, Table::Primitives), targets);
+    let meshes = lower(check_whole(words, s, h, Table::Meshes), shapes);
+    lower(check_whole(words, s, h, Table::Channels), meshes)
 }
 
 // The number of the tables: the lowest that applies to anything that is lent.
-pub fn tables_number(
+pub fn check_tables(
     words: &[u8],
     floats: &[u8],
     node_weights: &[u8],
     mesh_weights: &[u8],
     h: Header,
-) -> u32
-    ensures { result ≡ tables_number (bytes_lent words floats node_weights mesh_weights h) }
+) -> Result<(), Refusal>
+    ensures { number_drawn result ≡ tables_number (bytes_lent words floats node_weights mesh_weights h) }
 {
     let graph = h.graph;
     let s = checks::sizes_for(
@@ -79,12 +79,12 @@ pub fn tables_number(
         mesh_weights.len() / 4,
         h,
     );
-    let nodes = whole_number(words, s, h, Table::Nodes);
-    if nodes == OUT_OF_TABLE {
-        return OUT_OF_TABLE;
+    let nodes = check_whole(words, s, h, Table::Nodes);
+    if nodes == Err(Refusal::OutOfTable) {
+        return nodes;
     }
-    let children = children_number(words, graph.nodes);
-    let roots = checks::roots_number(words.len() / 4, graph.roots);
-    let listed = listed_number(words, s, h);
+    let children = check_children(words, graph.nodes);
+    let roots = checks::check_roots(words.len() / 4, graph.roots);
+    let listed = check_listed(words, s, h);
     lower(nodes, lower(children, lower(roots, listed)))
 }

@@ -1,5 +1,6 @@
 // A record in bytes, decoded by itself, and what it draws.
 ghost use Rattle.std.specs.Prelude.{◌≡◌, ◌+◌, ◌*◌};
+ghost use Rattle.refusals.specs.Drawn.{number_drawn};
 ghost use Rattle.model.specs.Lists.{part};
 ghost use Rattle.wire.specs.Bytes.{words_in};
 ghost use Rattle.tables.specs.Records.{node_row, channel_row};
@@ -8,6 +9,7 @@ ghost use Rattle.checks.specs.Drawn.{ByCount, lowest_below, row_number, record_w
 ghost use Rattle.byte_checks.specs.Bytes.{TableThere, RecordThere};
 
 use checks::Table;
+use refusals::Refusal;
 use row_checks::Sizes;
 use tables::{ChannelRow, NodeRow};
 use tracks::Part;
@@ -26,13 +28,13 @@ fn record_bytes(words: &[u8], t: Part, k: Table, i: usize) -> &[u8]
 }
 
 // What record i of a table draws.
-fn row_number(words: &[u8], s: Sizes, t: Part, k: Table, i: usize) -> u32
+fn check_row(words: &[u8], s: Sizes, t: Part, k: Table, i: usize) -> Result<(), Refusal>
     requires { RecordThere words.now t k i }
-    ensures { ByCount s result (λ floats. row_number (words_in words.now) floats s t k i) }
+    ensures { ByCount s (number_drawn result) (λ floats. row_number (words_in words.now) floats s t k i) }
 {
     let mut row = [0u32; 16];
     let n = wire::read_words(record_bytes(words, t, k, i), &mut row);
-    checks::row_number(&row[..n], s, tables::alone(), k, 0)
+    checks::check_row(&row[..n], s, tables::alone(), k, 0)
 }
 
 // Record i of the nodes.
@@ -66,17 +68,15 @@ pub(crate) fn channel_row(words: &[u8], channels: Part, i: usize) -> ChannelRow
 }
 
 // The lowest number that a record of a table draws.
-pub(crate) fn rows_number(words: &[u8], s: Sizes, t: Part, k: Table) -> u32
+pub(crate) fn check_rows(words: &[u8], s: Sizes, t: Part, k: Table) -> Result<(), Refusal>
     requires { TableThere words.now t k }
-    ensures { ByCount s result
+    ensures { ByCount s (number_drawn result)
         (λ floats. lowest_below t.count (row_number (words_in words.now) floats s t k)) }
 {
     let count = t.count;
-    let mut number: u32 = 0;
-    let mut i: usize = 0;
-    while i < count {
-        number = checks::lower(number, row_number(words, s, t, k, i));
-        i += 1;
+    let mut lowest = Ok(());
+    for i in 0..count {
+        lowest = checks::lower(lowest, check_row(words, s, t, k, i));
     }
-    number
+    lowest
 }

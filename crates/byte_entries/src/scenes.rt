@@ -1,5 +1,6 @@
 ghost use Rattle.std.specs.Prelude.{◌≡◌, length};
-ghost use Rattle.lent_bytes.specs.Bytes.{bytes_lent, scene_bytes, decoding_room, drawn_by, decoded_to, standing_in, Within};
+ghost use Rattle.lent_bytes.specs.Bytes.{bytes_lent, scene_bytes, decoding_room, drawn_by, decoded_to, standing_in};
+ghost use Rattle.lent_bytes.specs.Bytes.{Within};
 ghost use Rattle.byte_placing.specs.Placed.{placing_room, PlacedIn};
 ghost use Rattle.byte_entries.specs.Placed.{PlacedBytes};
 
@@ -108,10 +109,10 @@ pub extern "C" fn mesh3d_place(
         (placing_room walk codes matrices places worlds) result }
 {
     let count = lent_bytes::count_of(floats, node_weights, mesh_weights);
-    let drawn = lent_bytes::room_number(words.len() / 4, count, word_room.len(), float_room.len());
+    let drawn = lent_bytes::check_room(words.len() / 4, count, word_room.len(), float_room.len());
     let number_slots = wire::least(codes.len(), places.len() / 4);
     let world_slots = wire::least(matrices.len(), worlds.len() / 4) / 16;
-    let number = byte_checks::place_number(
+    let number = refusals::number(byte_checks::check_place(
         words,
         floats,
         node_weights,
@@ -121,7 +122,7 @@ pub extern "C" fn mesh3d_place(
         wire::least(marks.len() / 4, slots.len() / 10),
         wire::least(number_slots, world_slots),
         drawn,
-    );
+    ));
     if number != 0 {
         return Answer { number, taken: 0 };
     }

@@ -41,7 +41,7 @@ pub fn place_over(
 {
     let c = wire::least(codes.len(), places.len() / 4);
     let m = wire::least(matrices.len(), worlds.len() / 4);
-    let a = worlds::posed_node_transforms(
+    let a = Answer::from(worlds::posed_node_transforms(
         words,
         floats,
         node_weights,
@@ -52,7 +52,7 @@ pub fn place_over(
         walk,
         &mut codes[..c],
         &mut matrices[..m],
-    );
+    ));
     let number = a.number;
     if number != 0 {
         return a;

@@ -6,10 +6,11 @@ ghost use Rattle.std.specs.Prelude.{◌≡◌};
 ghost use Rattle.model.specs.Limits.{weight_limit};
 ghost use Rattle.model.specs.Sampling.{in_line};
 ghost use Rattle.model.specs.Refusals.{sample_number};
+ghost use Rattle.refusals.specs.Drawn.{number_drawn};
 ghost use Rattle.wire.specs.Bytes.{floats_in};
 ghost use Rattle.tracks.specs.Tracks.{track_in, table_number};
 
-use refusals::{KEYS_OUT_OF_LINE, NO_TIME, UNEVEN_TRACK};
+use refusals::Refusal;
 use tracks::Track;
 
 // Whether every key is finite and above the one before; bytes past the last whole float are not counted.
@@ -22,12 +23,10 @@ pub fn keys_in_line(keys: &[u8]) -> bool
     }
     let mut last = wire::float_at(keys, 0);
     let mut rising = float::is_finite(last);
-    let mut i = 1;
-    while i < count {
+    for i in 1..count {
         let key = wire::float_at(keys, i);
         rising = rising & (last < key);
         last = key;
-        i += 1;
     }
     rising & float::is_finite(last)
 }
@@ -43,24 +42,21 @@ fn keys_of(table: &[u8], t: Track) -> &[u8]
     &table[start..end]
 }
 
-// The number of a call for the value of a track, as far as 5: a scalar track that is not over size has room for its
+// What a call for the value of a track draws, as far as 5: a scalar track that is not over size has room for its
 // weights.
-pub fn sample_number(table: &[u8], t: Track, time: f32) -> u32
-    ensures { result ≡ sample_number (table_number (floats_in table.now) t)
+pub fn check_sample(table: &[u8], t: Track, time: f32) -> Result<(), Refusal>
+    ensures { number_drawn result ≡ sample_number (table_number (floats_in table.now) t)
         (track_in (floats_in table.now) t) time weight_limit }
 {
-    let drawn = tracks::number_in(table.len() / 4, t);
-    if drawn != 0 {
-        return drawn;
-    }
+    tracks::check_in(table.len() / 4, t)?;
     if float::is_nan(time) {
-        return NO_TIME;
+        return Err(Refusal::NoTime);
     }
     if tracks::track_stride(t) == 0 {
-        return UNEVEN_TRACK;
+        return Err(Refusal::UnevenTrack);
     }
     if !keys_in_line(keys_of(table, t)) {
-        return KEYS_OUT_OF_LINE;
+        return Err(Refusal::KeysOutOfLine);
     }
-    0
+    Ok(())
 }

@@ -6,10 +6,10 @@ mod numbers;
 mod records;
 
 pub use numbers::{
-    capped, child_entries, entries_number, record_words, roots_number, sizes_for, table_number,
-    tables_number,
+    capped, check_entries, check_roots, check_table, check_tables, child_entries, record_words,
+    sizes_for,
 };
-pub use records::{lower, row_number, table_of};
+pub use records::{check_row, lower, table_of};
 
 // The tables of records.
 #[derive(Clone, Copy)]

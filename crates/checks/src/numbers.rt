@@ -1,11 +1,12 @@
 ghost use Rattle.std.specs.Prelude.{◌≡◌, ◌+◌, min, length};
+ghost use Rattle.refusals.specs.Drawn.{number_drawn};
 ghost use Rattle.checks.specs.Drawn.{ByCount, record_words, count_within, table_number, whole_number, entries_number};
 ghost use Rattle.checks.specs.Drawn.{children_number, roots_number, listed_number, sizes_for, tables_number};
 ghost use Rattle.checks.specs.Drawn.{scene_lent, entry_cap, capped_entries};
 
 use crate::Table;
-use crate::records::{drawn, lower, rows_number, table_of};
-use refusals::{CHANNEL_LIMIT, CHILD_ENTRY_LIMIT, NODE_LIMIT, OUT_OF_TABLE, ROOT_LIMIT};
+use crate::records::{check, check_rows, lower, table_of};
+use refusals::{CHANNEL_LIMIT, CHILD_ENTRY_LIMIT, NODE_LIMIT, ROOT_LIMIT, Refusal};
 use row_checks::Sizes;
 use tables::Header;
 use tracks::Part;
@@ -42,25 +43,25 @@ fn count_within(k: Table, count: usize) -> bool
 }
 
 // What a table draws by its place and its count alone.
-pub fn table_number(len: usize, t: Part, k: Table) -> u32
-    ensures { result ≡ table_number len t k }
+pub fn check_table(len: usize, t: Part, k: Table) -> Result<(), Refusal>
+    ensures { number_drawn result ≡ table_number len t k }
 {
-    drawn(
+    check(
         tracks::fits(t, record_words(k), len),
         count_within(k, t.count),
     )
 }
 
 // What a table with its records draws. Records are looked at only where the table has them.
-fn whole_number(words: &[u32], s: Sizes, h: Header, k: Table) -> u32
-    ensures { ByCount s result (λ floats. whole_number words.now floats s h k) }
+fn check_whole(words: &[u32], s: Sizes, h: Header, k: Table) -> Result<(), Refusal>
+    ensures { ByCount s (number_drawn result) (λ floats. whole_number words.now floats s h k) }
 {
     let t = table_of(h, k);
-    let number = table_number(words.len(), t, k);
-    if number == OUT_OF_TABLE {
-        return OUT_OF_TABLE;
+    let drawn = check_table(words.len(), t, k);
+    if drawn == Err(Refusal::OutOfTable) {
+        return drawn;
     }
-    lower(number, rows_number(words, s, t, k))
+    lower(drawn, check_rows(words, s, t, k))
 }
 
 // One above the limit of child entries, which tells that it is passed.
@@ -84,49 +85,47 @@ pub fn child_entries(words: &[u32], nodes: Part) -> usize
 {
     let count = nodes.count;
     let mut sum: usize = 0;
-    let mut i: usize = 0;
-    while i < count {
+    for i in 0..count {
         let row = tables::node_row(words, nodes, i);
         let children = row.children;
         sum = capped(sum, children.count);
-        i += 1;
     }
     sum
 }
 
 // What so many child entries draw.
-pub fn entries_number(entries: usize) -> u32
-    ensures { result ≡ entries_number entries }
+pub fn check_entries(entries: usize) -> Result<(), Refusal>
+    ensures { number_drawn result ≡ entries_number entries }
 {
-    drawn(true, entries <= CHILD_ENTRY_LIMIT)
+    check(true, entries <= CHILD_ENTRY_LIMIT)
 }
 
 // What the child entries of all nodes draw.
-fn children_number(words: &[u32], nodes: Part) -> u32
-    ensures { result ≡ children_number words.now nodes }
+fn check_children(words: &[u32], nodes: Part) -> Result<(), Refusal>
+    ensures { number_drawn result ≡ children_number words.now nodes }
 {
-    entries_number(child_entries(words, nodes))
+    check_entries(child_entries(words, nodes))
 }
 
 // What the roots draw by their place and their count.
-pub fn roots_number(len: usize, roots: Part) -> u32
-    ensures { result ≡ roots_number len roots }
+pub fn check_roots(len: usize, roots: Part) -> Result<(), Refusal>
+    ensures { number_drawn result ≡ roots_number len roots }
 {
     let count = roots.count;
-    drawn(tracks::fits(roots, 1, len), count <= ROOT_LIMIT)
+    check(tracks::fits(roots, 1, len), count <= ROOT_LIMIT)
 }
 
 // What all tables but the nodes draw.
-fn listed_number(words: &[u32], s: Sizes, h: Header) -> u32
-    ensures { ByCount s result (λ floats. listed_number words.now floats s h) }
+fn check_listed(words: &[u32], s: Sizes, h: Header) -> Result<(), Refusal>
+    ensures { ByCount s (number_drawn result) (λ floats. listed_number words.now floats s h) }
 {
-    let skeletons = whole_number(words, s, h, Table::Skeletons);
-    let skins = lower(whole_number(words, s, h, Table::Skins), skeletons);
-    let between = lower(whole_number(words, s, h, Table::InBetweens), skins);
-    let targets = lower(whole_number(words, s, h, Table::Targets), between);
-    let shapes = lower(whole_number(words, s, h, Table::Primitives), targets);
-    let meshes = lower(whole_number(words, s, h, Table::Meshes), shapes);
-    lower(whole_number(words, s, h, Table::Channels), meshes)
+    let skeletons = check_whole(words, s, h, Table::Skeletons);
+    let skins = lower(check_whole(words, s, h, Table::Skins), skeletons);
+    let between = lower(check_whole(words, s, h, Table::InBetweens), skins);
+    let targets = lower(check_whole(words, s, h, Table::Targets), between);
+    let shapes = lower(check_whole(words, s, h, Table::Primitives), targets);
+    let meshes = lower(check_whole(words, s, h, Table::Meshes), shapes);
+    lower(check_whole(words, s, h, Table::Channels), meshes)
 }
 
 // The lengths of all slices, and of the tables whose records are listed.
@@ -152,14 +151,14 @@ pub fn sizes_for(
 }
 
 // The number of the tables: the lowest that applies to anything that is lent.
-pub fn tables_number(
+pub fn check_tables(
     words: &[u32],
     floats: &[f32],
     node_weights: &[f32],
     mesh_weights: &[f32],
     h: Header,
-) -> u32
-    ensures { result ≡ tables_number (scene_lent words floats node_weights mesh_weights h) }
+) -> Result<(), Refusal>
+    ensures { number_drawn result ≡ tables_number (scene_lent words floats node_weights mesh_weights h) }
 {
     let graph = h.graph;
     let s = sizes_for(
@@ -169,12 +168,12 @@ pub fn tables_number(
         mesh_weights.len(),
         h,
     );
-    let nodes = whole_number(words, s, h, Table::Nodes);
-    if nodes == OUT_OF_TABLE {
-        return OUT_OF_TABLE;
+    let nodes = check_whole(words, s, h, Table::Nodes);
+    if nodes == Err(Refusal::OutOfTable) {
+        return nodes;
     }
-    let children = children_number(words, graph.nodes);
-    let roots = roots_number(words.len(), graph.roots);
-    let listed = listed_number(words, s, h);
+    let children = check_children(words, graph.nodes);
+    let roots = check_roots(words.len(), graph.roots);
+    let listed = check_listed(words, s, h);
     lower(nodes, lower(children, lower(roots, listed)))
 }

@@ -1,11 +1,12 @@
 // What a record draws, and what all records of a table draw.
 ghost use Rattle.std.specs.Prelude.{◌≡◌};
+ghost use Rattle.refusals.specs.Drawn.{number_drawn};
 ghost use Rattle.checks.specs.Drawn.{ByCount, drawn, lower_of, lowest_below, table_of, node_number, channel_number};
 ghost use Rattle.checks.specs.Drawn.{mesh_number, primitive_number, target_number, in_between_number, skin_number};
 ghost use Rattle.checks.specs.Drawn.{skeleton_number, row_number};
 
 use crate::Table;
-use refusals::{OUT_OF_TABLE, OVER_LIMIT};
+use refusals::Refusal;
 use row_checks::{
     Sizes, in_between_fits, in_between_within, mesh_fits, mesh_within, node_fits, node_within,
     primitive_fits, primitive_within, skeleton_fits, skeleton_within, skin_within, tags_known,
@@ -14,29 +15,31 @@ use row_checks::{
 use tables::Header;
 use tracks::Part;
 
-pub(crate) fn drawn(fits: bool, within: bool) -> u32
-    ensures { result ≡ drawn fits within }
+// What is asked of a part draws: that it lies in its table, and then that it is within its limits.
+pub(crate) fn check(fits: bool, within: bool) -> Result<(), Refusal>
+    ensures { number_drawn result ≡ drawn fits within }
 {
     if fits {
         if within {
-            return 0;
+            return Ok(());
         }
-        return OVER_LIMIT;
+        return Err(Refusal::OverLimit);
     }
-    OUT_OF_TABLE
+    Err(Refusal::OutOfTable)
 }
 
-// The lower of two numbers, 0 being none.
-pub fn lower(a: u32, b: u32) -> u32
-    ensures { result ≡ lower_of a b }
+// The lower of two answers: the lower refusal, or the one that there is. The numbers are compared: the derived order
+// is proved over the variants' tags, and contracts speak of numbers.
+pub fn lower(a: Result<(), Refusal>, b: Result<(), Refusal>) -> Result<(), Refusal>
+    ensures { number_drawn result ≡ lower_of (number_drawn a) (number_drawn b) }
 {
-    if a == 0 {
+    let Err(x) = a else {
         return b;
-    }
-    if b == 0 {
+    };
+    let Err(y) = b else {
         return a;
-    }
-    if a < b { a } else { b }
+    };
+    if u32::from(x) < u32::from(y) { a } else { b }
 }
 
 // Where a table lies.
@@ -58,90 +61,88 @@ pub fn table_of(h: Header, k: Table) -> Part
     }
 }
 
-fn node_number(words: &[u32], s: Sizes, t: Part, i: usize) -> u32
-    ensures { result ≡ node_number words.now s t i }
+fn check_node(words: &[u32], s: Sizes, t: Part, i: usize) -> Result<(), Refusal>
+    ensures { number_drawn result ≡ node_number words.now s t i }
 {
     let row = tables::node_row(words, t, i);
-    drawn(node_fits(s, row), node_within(row))
+    check(node_fits(s, row), node_within(row))
 }
 
-fn channel_number(words: &[u32], s: Sizes, t: Part, i: usize) -> u32
-    ensures { ByCount s result (λ floats. channel_number words.now floats t i) }
+fn check_channel(words: &[u32], s: Sizes, t: Part, i: usize) -> Result<(), Refusal>
+    ensures { ByCount s (number_drawn result) (λ floats. channel_number words.now floats t i) }
 {
     let row = tables::channel_row(words, t, i);
     lower(
-        tracks::number_in(s.floats, tables::track_of(row)),
-        drawn(true, tags_known(row)),
+        tracks::check_in(s.floats, tables::track_of(row)),
+        check(true, tags_known(row)),
     )
 }
 
-fn mesh_number(words: &[u32], s: Sizes, t: Part, i: usize) -> u32
-    ensures { result ≡ mesh_number words.now s t i }
+fn check_mesh(words: &[u32], s: Sizes, t: Part, i: usize) -> Result<(), Refusal>
+    ensures { number_drawn result ≡ mesh_number words.now s t i }
 {
     let row = tables::mesh_row(words, t, i);
-    drawn(mesh_fits(s, row), mesh_within(row))
+    check(mesh_fits(s, row), mesh_within(row))
 }
 
-fn primitive_number(words: &[u32], s: Sizes, t: Part, i: usize) -> u32
-    ensures { result ≡ primitive_number words.now s t i }
+fn check_primitive(words: &[u32], s: Sizes, t: Part, i: usize) -> Result<(), Refusal>
+    ensures { number_drawn result ≡ primitive_number words.now s t i }
 {
     let row = tables::primitive_row(words, t, i);
-    drawn(primitive_fits(s, row), primitive_within(row))
+    check(primitive_fits(s, row), primitive_within(row))
 }
 
-fn target_number(words: &[u32], s: Sizes, t: Part, i: usize) -> u32
-    ensures { result ≡ target_number words.now s t i }
+fn check_target(words: &[u32], s: Sizes, t: Part, i: usize) -> Result<(), Refusal>
+    ensures { number_drawn result ≡ target_number words.now s t i }
 {
     let row = tables::target_row(words, t, i);
-    drawn(target_fits(s, row), target_within(row))
+    check(target_fits(s, row), target_within(row))
 }
 
-fn in_between_number(words: &[u32], s: Sizes, t: Part, i: usize) -> u32
-    ensures { result ≡ in_between_number words.now s t i }
+fn check_in_between(words: &[u32], s: Sizes, t: Part, i: usize) -> Result<(), Refusal>
+    ensures { number_drawn result ≡ in_between_number words.now s t i }
 {
     let row = tables::in_between_row(words, t, i);
-    drawn(in_between_fits(s, row), in_between_within(row))
+    check(in_between_fits(s, row), in_between_within(row))
 }
 
-fn skin_number(words: &[u32], t: Part, i: usize) -> u32
-    ensures { result ≡ skin_number words.now t i }
+fn check_skin(words: &[u32], t: Part, i: usize) -> Result<(), Refusal>
+    ensures { number_drawn result ≡ skin_number words.now t i }
 {
-    drawn(true, skin_within(tables::skin_row(words, t, i)))
+    check(true, skin_within(tables::skin_row(words, t, i)))
 }
 
-fn skeleton_number(words: &[u32], s: Sizes, t: Part, i: usize) -> u32
-    ensures { result ≡ skeleton_number words.now s t i }
+fn check_skeleton(words: &[u32], s: Sizes, t: Part, i: usize) -> Result<(), Refusal>
+    ensures { number_drawn result ≡ skeleton_number words.now s t i }
 {
     let row = tables::skeleton_row(words, t, i);
-    drawn(skeleton_fits(s, row), skeleton_within(row))
+    check(skeleton_fits(s, row), skeleton_within(row))
 }
 
 // What record i of a table draws.
-pub fn row_number(words: &[u32], s: Sizes, t: Part, k: Table, i: usize) -> u32
-    ensures { ByCount s result (λ floats. row_number words.now floats s t k i) }
+pub fn check_row(words: &[u32], s: Sizes, t: Part, k: Table, i: usize) -> Result<(), Refusal>
+    ensures { ByCount s (number_drawn result) (λ floats. row_number words.now floats s t k i) }
 {
     match k {
-        Table::Nodes => node_number(words, s, t, i),
-        Table::Channels => channel_number(words, s, t, i),
-        Table::Meshes => mesh_number(words, s, t, i),
-        Table::Primitives => primitive_number(words, s, t, i),
-        Table::Targets => target_number(words, s, t, i),
-        Table::InBetweens => in_between_number(words, s, t, i),
-        Table::Skins => skin_number(words, t, i),
-        Table::Skeletons => skeleton_number(words, s, t, i),
+        Table::Nodes => check_node(words, s, t, i),
+        Table::Channels => check_channel(words, s, t, i),
+        Table::Meshes => check_mesh(words, s, t, i),
+        Table::Primitives => check_primitive(words, s, t, i),
+        Table::Targets => check_target(words, s, t, i),
+        Table::InBetweens => check_in_between(words, s, t, i),
+        Table::Skins => check_skin(words, t, i),
+        Table::Skeletons => check_skeleton(words, s, t, i),
     }
 }
 
 // The lowest number that a record of a table draws.
-pub(crate) fn rows_number(words: &[u32], s: Sizes, t: Part, k: Table) -> u32
-    ensures { ByCount s result (λ floats. lowest_below t.count (row_number words.now floats s t k)) }
+pub(crate) fn check_rows(words: &[u32], s: Sizes, t: Part, k: Table) -> Result<(), Refusal>
+    ensures { ByCount s (number_drawn result) (λ floats. lowest_below t.count (row_number words.now floats s t k)) }
 {
     let count = t.count;
-    let mut number: u32 = 0;
-    let mut i: usize = 0;
-    while i < count {
-        number = lower(number, row_number(words, s, t, k, i));
-        i += 1;
+    let mut lowest = Ok(());
+    for i in 0..count {
+        lowest = lower(lowest, check_row(words, s, t, k, i));
     }
-    number
+    lowest
 }

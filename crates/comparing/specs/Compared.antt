@@ -1,5 +1,6 @@
 -- What was found beside what is right, one by one and in lists. Definitions only.
-use Rattle.std.specs.Prelude.{Bool, true, false, ◌&&◌, List, [], ◌∷◌, ℕ, ◌+◌, ◌%◌, eqb, Float, length}
+use Rattle.std.specs.Prelude.{Bool, List, [], ◌∷◌, ℕ, ◌+◌, ◌%◌, eqb, Float, length}
+use Rattle.std.specs.Cmp.Lexicographic.{pointwise}
 use Rattle.float.specs.F32.{f32}
 use Rattle.model.specs.Lists.{pick}
 use Rattle.comparing.specs.Near.{same_bits, near_by}
@@ -36,16 +37,9 @@ of_lengths a m n = pick (eqb m n) a (one_differs a)
 abbrev pub compared : Agreement → List Float → List ℕ → Float → Agreement
 compared a xs ws most = agreeing_all (of_lengths a (length xs) (length ws)) xs ws most
 
--- two lists of one length that agree entry by entry
-unfoldable pub alike : {A B : Type 0} → (A → B → Bool) → List A → List B → Bool
-alike same [] [] = true
-alike same [] (y ∷ ys) = false
-alike same (x ∷ xs) [] = false
-alike same (x ∷ xs) (y ∷ ys) = same x y && alike same xs ys
-
+-- two lists of one length that agree entry by entry: words, and floats beside the bits of floats
 abbrev pub same_words : List ℕ → List ℕ → Bool
-same_words = alike eqb
+same_words = pointwise eqb
 
--- floats, and the bits of floats
 abbrev pub same_floats : List Float → List ℕ → Bool
-same_floats = alike (λ x w. same_bits x (f32 w))
+same_floats = pointwise (λ x w. same_bits x (f32 w))

@@ -4,10 +4,11 @@
 
 ghost use Rattle.std.specs.Prelude.{◌≡◌};
 ghost use Rattle.comparing.specs.Near.{same_bits, near_by};
-ghost use Rattle.comparing.specs.Compared.{one_more, agreeing, of_lengths, compared, same_words, same_floats};
+ghost use Rattle.comparing.specs.Compared.{one_more, one_differs, agreeing, of_lengths, compared};
+ghost use Rattle.comparing.specs.Compared.{same_words, same_floats};
 
 // How many floats have equal bits, how many lie within what is allowed, and how many differ.
-#[derive(Clone, Copy)]
+#[derive(Clone, Copy, Debug, PartialEq, Eq)]
 pub struct Agreement {
     pub equal: u32,
     pub near: u32,
@@ -25,14 +26,8 @@ fn is_equal(x: f32, y: f32) -> bool
 pub fn is_near(x: f32, y: f32, most: f64) -> bool
     ensures { result ≡ near_by x y most }
 {
-    if is_equal(x, y) {
-        return true;
-    }
     let gap = float::widen(x) - float::widen(y);
-    if gap < most {
-        return -most < gap;
-    }
-    false
+    is_equal(x, y) || (gap < most && -most < gap)
 }
 
 // One more. The counts stay below 2^31, far above the length of any list.
@@ -53,27 +48,41 @@ impl Agreement {
         }
     }
 
-    pub fn with(mut self, found: f32, expected: f32, most: f64) -> Self
+    pub fn with(self, found: f32, expected: f32, most: f64) -> Self
         ensures { result ≡ agreeing self found expected most }
     {
         if is_equal(found, expected) {
-            self.equal = one_more(self.equal);
+            Agreement {
+                equal: one_more(self.equal),
+                ..self
+            }
         } else if is_near(found, expected, most) {
-            self.near = one_more(self.near);
+            Agreement {
+                near: one_more(self.near),
+                ..self
+            }
         } else {
-            self.differ = one_more(self.differ);
+            self.one_differs()
         }
-        self
     }
 
-    fn with_lengths(mut self, found: usize, expected: usize) -> Self
+    fn one_differs(self) -> Self
+        ensures { result ≡ one_differs self }
+    {
+        Agreement {
+            differ: one_more(self.differ),
+            ..self
+        }
+    }
+
+    fn with_lengths(self, found: usize, expected: usize) -> Self
         ensures { result ≡ of_lengths self found expected }
     {
         if found == expected {
-            return self;
+            self
+        } else {
+            self.one_differs()
         }
-        self.differ = one_more(self.differ);
-        self
     }
 }
 
@@ -82,46 +91,27 @@ impl Agreement {
 pub fn compare(so_far: Agreement, found: &[f32], expected: &[u32], most: f64) -> Agreement
     ensures { result ≡ compared so_far found.now expected.now most }
 {
-    let mut agreement = so_far.with_lengths(found.len(), expected.len());
-    let n = wire::least(found.len(), expected.len());
-    let mut i = 0;
-    while i < n {
-        agreement = agreement.with(found[i], float::from_bits(expected[i]), most);
-        i += 1;
-    }
-    agreement
+    let start = so_far.with_lengths(found.len(), expected.len());
+    found.iter().zip(expected).fold(
+        start,
+        |agreement, (x, bits)| agreement.with(*x, float::from_bits(*bits), most),
+    )
 }
 
 // Whether floats are as many as expected, and each has the bits that are.
 pub fn floats_agree(found: &[f32], expected: &[u32]) -> bool
     ensures { result ≡ same_floats found.now expected.now }
 {
-    if found.len() != expected.len() {
-        return false;
-    }
-    let mut i = 0;
-    while i < found.len() {
-        if !is_equal(found[i], float::from_bits(expected[i])) {
-            return false;
-        }
-        i += 1;
-    }
-    true
+    found.len() == expected.len()
+        && found
+            .iter()
+            .zip(expected)
+            .all(|(x, bits)| is_equal(*x, float::from_bits(*bits)))
 }
 
 // Whether words are as many as expected, and each is the expected one.
 pub fn words_agree(found: &[u32], expected: &[u32]) -> bool
     ensures { result ≡ same_words found.now expected.now }
 {
-    if expected.len() != found.len() {
-        return false;
-    }
-    let mut i = 0;
-    while i < found.len() {
-        if found[i] != expected[i] {
-            return false;
-        }
-        i += 1;
-    }
-    true
+    found == expected
 }

@@ -26,10 +26,8 @@ pub fn add_scaled(out: &mut [f32], w: f32, deltas: &[f32])
         (rows_in 3 deltas.now)) out.old }
 {
     let n = wire::least(out.len() / 3, deltas.len() / 3) * 3;
-    let mut k = 0;
-    while k < n {
+    for k in 0..n {
         out[k] = out[k] + w * deltas[k];
-        k += 1;
     }
 }
 
@@ -39,8 +37,7 @@ pub fn add_tangents(out: &mut [f32], w: f32, deltas: &[f32])
         (rows_in 4 out.old) (rows_in 3 deltas.now)) out.old }
 {
     let n = wire::least(out.len() / 4, deltas.len() / 3);
-    let mut i = 0;
-    while i < n {
+    for i in 0..n {
         let o = i * 4;
         let d = i * 3;
         let x = out[o] + w * deltas[d];
@@ -49,7 +46,6 @@ pub fn add_tangents(out: &mut [f32], w: f32, deltas: &[f32])
         out[o] = x;
         out[o + 1] = y;
         out[o + 2] = z;
-        i += 1;
     }
 }
 
@@ -72,11 +68,9 @@ pub fn add_between(out: &mut [f32], t: f32, low: &[f32], high: &[f32], count: us
     let n = wire::least(out.len() / 3, count) * 3;
     let lows = low.len() / 3 * 3;
     let highs = high.len() / 3 * 3;
-    let mut k = 0;
-    while k < n {
+    for k in 0..n {
         let a = float_or_zero(low, lows, k);
         let b = float_or_zero(high, highs, k);
         out[k] = out[k] + (a + t * (b - a));
-        k += 1;
     }
 }

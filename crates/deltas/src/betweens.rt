@@ -43,12 +43,10 @@ pub fn has_valid(words: &[u32], floats: &[f32], h: Header, betweens: Part) -> bo
         (betweens_in words.now floats.now h betweens) }
 {
     let count = betweens.count;
-    let mut k = 0;
-    while k < count {
+    for k in 0..count {
         if is_valid(station_at(words, floats, h, betweens, k).weight) {
             return true;
         }
-        k += 1;
     }
     false
 }
@@ -59,12 +57,10 @@ fn sharing_weight(words: &[u32], floats: &[f32], h: Header, betweens: Part, w: f
 {
     let count = betweens.count;
     let mut n = 0;
-    let mut k = 0;
-    while k < count {
+    for k in 0..count {
         if station_at(words, floats, h, betweens, k).weight == w {
             n += 1;
         }
-        k += 1;
     }
     n
 }

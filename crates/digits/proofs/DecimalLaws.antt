@@ -1,6 +1,6 @@
 -- Up to eight decimal digits worked on at once. Assumes nothing.
 use mathlib.Core.Path.{◌≡◌, refl, sym, ap, subst, ◌∙◌}
-use mathlib.Core.Bool.{Bool, true, false, ◌&&◌, ◌||◌, not}
+use mathlib.Core.Bool.{true, false, ◌||◌, not}
 use mathlib.Core.List.{List, [], ◌∷◌, ◌++◌, map}
 use Prim.Native.Nat.{ℕ, zero, suc, ◌+◌, ◌*◌, ◌-◌, ◌/◌, ◌%◌, ◌^◌, ◌≤◌, ◌<◌}
 use native.Mathlib.Omega.{arith}
@@ -10,7 +10,7 @@ use lib.Dec.{T, ltb, eqb}
 use lib.ListN.{length, get_or, take, replicate, length-map}
 use Rattle.model.specs.Lists.{every}
 use Rattle.grammar.specs.Digits.{numbers, hex_digit, digits_of}
-use Rattle.grammar.proofs.Words.{both, and-of}
+use Rattle.grammar.proofs.Words.{and-of}
 use Rattle.digits.specs.Packed.{packed, Packs, Turns, mirrored, laid, Pads, Tens}
 use Rattle.digits.proofs.EightLaws.{and_last, below_at, same_bytes, entries, eight-entries}
 use Rattle.digits.proofs.NumberLaws.{low, Digits, digits_same, digits-below, digits-alone, digits-spelt}
@@ -57,10 +57,6 @@ positive : (x : ℕ) → (not (eqb x 0) || false) ≡ true → 0 < x
 positive zero h = absurd (subst T (sym h) tt)
 positive (suc x) h = omega arith
 
-T_true : (t : Bool) → T t → t ≡ true
-T_true true x = refl
-T_true false x = absurd x
-
 module _ (bs : List ℕ) {w : ℕ} (long : length bs ≡ 8) (ws : Packs 256 w (mirrored bs)) where
   -- the first c of them, more than one
   spell : (c : ℕ) {ds : List ℕ} {v : ℕ} → take c (entries bs) ≡ get_or bs 0 0 ∷ ds → length ds ≤ 9
@@ -77,15 +73,14 @@ module _ (bs : List ℕ) {w : ℕ} (long : length bs ≡ 8) (ws : Packs 256 w (m
 
   pub decimal-read : (count : ℕ) {p d l v : ℕ} → 1 ≤ count → count ≤ 8 → Pads w count p
       → Turns (λ b. b % 16) 256 16 p d → Tens d v → Turns hex_digit 16 256 d l
-      → (eqb l p && (not (eqb (d / 2 ^ (64 - 8 * count) % 256) 0) || eqb count 1)) ≡ true
+      → eqb l p ≡ true → (not (eqb (d / 2 ^ (64 - 8 * count) % 256) 0) || eqb count 1) ≡ true
       → digits_of numbers v ≡ take count bs
   unfolding packed Digits turned_onto
-  decimal-read count {p} {d} {l} {v} h k ps lows ten letters e =
-      let q = both (eqb l p) (not (eqb (d / 2 ^ (64 - 8 * count) % 256) 0) || eqb count 1) (subst T (sym e) tt) in
+  decimal-read count {p} {d} {l} {v} h k ps lows ten letters e o =
       let laid_out = laid count bs in
       let bytes = ps bs ws in
       let halves = lows laid_out bytes in
-      let same = same_bytes (letters (map low laid_out) halves) bytes (T_true (eqb l p) q.0) in
+      let same = same_bytes (letters (map low laid_out) halves) bytes e in
       let g = digits_same laid_out same in
       let t : Packs 10 d (map low laid_out) =
       record { below = digits-below laid_out g; eight = halves.eight; one = halves.one } in
@@ -108,4 +103,4 @@ module _ (bs : List ℕ) {w : ℕ} (long : length bs ≡ 8) (ws : Packs 256 w (m
       (digits-turned (take 7 (laid 7 bs)) [] (digits-take 7 (laid 7 bs) g) tt) (begins 7 (omega arith) (omega arith) t o))
       (λ g t o. spell 8 refl (omega arith) (ten (replicate 0 0 ++ map low (take 8 (entries bs))) refl t)
       (digits-turned (take 8 (laid 8 bs)) [] (digits-take 8 (laid 8 bs) g) tt) (begins 8 (omega arith) (omega arith) t o))
-      count h k g t (T_true (not (eqb (d / 2 ^ (64 - 8 * count) % 256) 0) || eqb count 1) q.1)
+      count h k g t o

@@ -1,6 +1,5 @@
 -- Items that stand in a text as they are written. Assumes nothing.
 use mathlib.Core.Path.{◌≡◌, refl, sym, ap, subst, ◌∙◌}
-use mathlib.Core.Bool.{false}
 use mathlib.Core.List.{List, [], ◌∷◌, ◌++◌, map}
 use Prim.Native.Nat.{ℕ, zero, suc, ◌+◌, ◌*◌, ◌-◌, ◌^◌, ◌≤◌, ◌<◌}
 use native.Mathlib.Nat.{pow-suc}
@@ -8,17 +7,12 @@ use native.Mathlib.Numerals.{add-one}
 use native.Mathlib.Omega.{arith}
 use lib.ListN.{length, get_or, take, drop, length-append, length-drop, take-append-drop}
 use lib.Seq.{drop-cons, drop-drop, append_snoc, length-take-le, take-take}
-use Rattle.grammar.specs.Digits.{Sort, numbers, floats, digits_of}
+use Rattle.grammar.specs.Digits.{numbers, floats, digits_of}
 use Rattle.grammar.specs.Parsed.{digit_of}
 use Rattle.digits.specs.Packed.{packed, Written}
 use Rattle.digits.proofs.EightLaws.{digits-written}
-use lib.Dec.{T}
-use Rattle.digits.specs.declared.Standing.{Standing}
-use Rattle.digits.specs.Standing.{Stands, ItemStands, StandsAt, Begins}
+use Rattle.digits.specs.Standing.{Stands, ItemStands, Begins}
 use Rattle.digits.proofs.NumberLaws.{digits_in, digits-one, digits_more}
-
-pub none-stands : {s : Sort} {text : List ℕ} {from : ℕ} (r : Standing) → r.written ≡ false → StandsAt s text from r
-none-stands r e h = absurd (subst T (sym h ∙ e) tt)
 
 -- the same bytes behind one more
 pub stands_one : {text : List ℕ} {at next b : ℕ} {bs : List ℕ} → at < length text → get_or text at 0 ≡ b
@@ -62,9 +56,9 @@ float-stands {text} {bs} {at} {v} h b w e =
     first-stand 8 h (omega arith) b (digits-written bs v long w e ∙ whole)
 
 -- ---- digit by digit
-pub begins : {text : List ℕ} {from : ℕ} → from < length text → 48 < get_or text from 0 → get_or text from 0 < 58
-    → Begins text from (from + 1) (get_or text from 0 - 48)
-begins {text} {from} h l u =
+pub begins : {text : List ℕ} {from b : ℕ} → from < length text → get_or text from 0 ≡ b → 48 < b → b < 58
+    → Begins text from (from + 1) (b - 48)
+begins {text} {from} h e l u =
     let none : Stands text (from + 1) (from + 1) [] = record { here = refl; far = omega arith } in
     record { stands = stands_one h (omega arith) none; some = omega arith; less = omega arith }
 
@@ -82,14 +76,15 @@ number-start {text} {from} {at} {v} b = record {
 }
 
 module _ {text : List ℕ} {from i v : ℕ} (g : NumberGoing text from i v) where
-  pub number_more : i < length text → 48 ≤ get_or text i 0 → get_or text i 0 ≤ 57 → v ≤ 0x1999_9998
-      → NumberGoing text from (i + 1) (v * 10 + (get_or text i 0 - 48))
-  number_more h l u m =
+  pub number_more : {n : ℕ} → i < length text → 48 ≤ get_or text i 0 → get_or text i 0 ≤ 57
+      → n ≡ v * 10 + (get_or text i 0 - 48) → n < 0x1_0000_0000 → NumberGoing text from (i + 1) n
+  number_more h l u e m =
       let d = get_or text i 0 - 48 in
       let o = g.some in
       let byte : get_or text i 0 ≡ 48 + d = omega arith in
       let one = g.stands in
-      record { stands = more d byte (omega arith) o one; some = omega arith; small = omega arith }
+      subst (NumberGoing text from (i + 1)) (sym e)
+      (record { stands = more d byte (omega arith) o one; some = omega arith; small = omega arith })
     where
       more : (d : ℕ) → get_or text i 0 ≡ 48 + d → d < 10 → 0 < v
           → ((k : ℕ) → v < 10 ^ suc k → Stands text from i (digits_in k v))

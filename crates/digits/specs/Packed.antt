@@ -1,9 +1,8 @@
 -- Digits or bytes as one number, and what is read of eight bytes at once. Definitions only.
-use Rattle.std.specs.Prelude.{◌≡◌, true, List, [], ◌∷◌, ◌++◌, map, ℕ, ◌+◌, ◌*◌, ◌-◌, ◌≤◌, T, ltb, length, get_or, take, drop, replicate}
+use Rattle.std.specs.Prelude.{◌≡◌, List, [], ◌∷◌, ◌++◌, map, ℕ, ◌+◌, ◌*◌, ◌-◌, ◌≤◌, T, ltb, length, get_or, take, drop, replicate}
 use Rattle.model.specs.Lists.{every}
 use Rattle.grammar.specs.Digits.{numbers, hex_digit, digits_of}
 use Rattle.grammar.specs.Parsed.{digit_of}
-use Rattle.digits.specs.declared.Eight.{Eight}
 use Rattle.digits.specs.declared.Decimal.{Decimal}
 
 -- digits as one number behind v, the first one highest
@@ -29,9 +28,9 @@ Spelt w r = (ds : List ℕ) → Packs 16 w ds → r ≡ packed 16 0 ds
 abbrev pub Written : List ℕ → Type 0
 Written bs = map hex_digit (map digit_of bs) ≡ bs
 
-pub record EightRead (bs : List ℕ) (r : Eight) : Type 0 where
-  pub value : r.value ≡ packed 16 0 (map digit_of bs)
-  pub written : r.written ≡ true → Written bs
+pub record EightRead (bs : List ℕ) (v : ℕ) : Type 0 where
+  pub value : v ≡ packed 16 0 (map digit_of bs)
+  pub written : Written bs
 
 -- ---- decimal digits, the first one lowest
 
@@ -53,4 +52,4 @@ Tens w r = (ds : List ℕ) → length ds ≡ 8 → Packs 10 w (mirrored ds) → 
 
 pub record DecimalRead (bs : List ℕ) (r : Decimal) : Type 0 where
   pub few : r.count ≤ 8
-  pub written : r.written ≡ true → digits_of numbers r.value ≡ take r.count bs
+  pub written : digits_of numbers r.value ≡ take r.count bs

@@ -1,5 +1,5 @@
 -- Items that stand in a text as they are written. Definitions only.
-use Rattle.std.specs.Prelude.{◌≡◌, true, List, [], ◌∷◌, ◌++◌, ℕ, ◌+◌, ◌<◌, length, get_or, drop}
+use Rattle.std.specs.Prelude.{◌≡◌, List, [], ◌∷◌, ◌++◌, ℕ, ◌+◌, ◌<◌, length, get_or, drop}
 use Rattle.grammar.specs.Digits.{Sort, digits_of}
 use Rattle.digits.specs.declared.Standing.{Standing}
 
@@ -16,7 +16,7 @@ pub record ItemStands (s : Sort) (text : List ℕ) (from next v : ℕ) : Type 0 
   pub stops : get_or text next 0 < 48
 
 abbrev pub StandsAt : Sort → List ℕ → ℕ → Standing → Type 0
-StandsAt s text from r = r.written ≡ true → ItemStands s text from r.next r.value
+StandsAt s text from r = ItemStands s text from r.next r.value
 
 -- a digit other than 0 stands there
 pub record Begins (text : List ℕ) (from next v : ℕ) : Type 0 where

@@ -1,20 +1,8 @@
 // Up to eight decimal digits read at once, in a number of 64 bits that has a byte for each, the first one lowest.
-ghost use Rattle.std.specs.Prelude.{◌≡◌, ◌&&◌, ◌||◌, ◌-◌, ◌*◌, ◌/◌, ◌%◌, ◌^◌, ◌≤◌, length};
+ghost use Rattle.std.specs.Prelude.{◌≡◌, ◌-◌, ◌*◌, ◌/◌, ◌%◌, ◌^◌, ◌≤◌, length, IfSome};
 ghost use Rattle.digits.specs.Packed.{Packs, Turns, mirrored, Pads, Tens, DecimalRead};
 
 use crate::Decimal;
-
-fn both(a: bool, b: bool) -> bool
-    ensures { result ≡ (a && b) }
-{
-    if a { b } else { false }
-}
-
-fn either(a: bool, b: bool) -> bool
-    ensures { result ≡ (a || b) }
-{
-    if a { true } else { b }
-}
 
 // Eight bytes as one number.
 fn lowest_first(bytes: &[u8]) -> u64
@@ -70,26 +58,21 @@ fn number_of(d: u64) -> u32
     (fours % 0x1_0000 * 10000 + fours / 0x1_0000_0000) as u32
 }
 
-// The number that the first of eight bytes spell, and whether they are as it is written.
-pub(crate) fn up_to_eight(bytes: &[u8]) -> Decimal
+// The number that the first of eight bytes spell, where they are as it is written, and how many these are.
+pub(crate) fn up_to_eight(bytes: &[u8]) -> Option<Decimal>
     requires { length bytes.now ≡ 8 }
-    ensures { DecimalRead bytes.now result }
+    ensures { IfSome result (DecimalRead bytes.now) }
 {
     let w = lowest_first(bytes);
     let count = digits_before(w);
-    if 0 < count {
-        let p = padded(w, count);
-        let d = low_halves(p);
-        let alone = either(first_digit(d, count) != 0, count == 1);
-        return Decimal {
-            value: number_of(d),
-            count,
-            written: both(crate::eights::letters_for(d) == p, alone),
-        };
+    if count == 0 {
+        return None;
     }
-    Decimal {
-        value: 0,
-        count,
-        written: false,
+    let p = padded(w, count);
+    let d = low_halves(p);
+    if crate::eights::letters_for(d) == p && (first_digit(d, count) != 0 || count == 1) {
+        let value = number_of(d);
+        return Some(Decimal { value, count });
     }
+    None
 }

@@ -1,10 +1,8 @@
 // Eight hexadecimal digits read at once, in a number of 64 bits that has a byte for each, the first one highest.
-ghost use Rattle.std.specs.Prelude.{◌≡◌, ◌+◌, ◌*◌, ◌≤◌, ◌<◌, length};
+ghost use Rattle.std.specs.Prelude.{◌≡◌, ◌+◌, ◌*◌, ◌≤◌, ◌<◌, length, IfSome};
 ghost use Rattle.grammar.specs.Digits.{hex_digit};
 ghost use Rattle.grammar.specs.Parsed.{digit_of};
 ghost use Rattle.digits.specs.Packed.{Packs, Turns, Spelt, EightRead};
-
-use crate::Eight;
 
 pub(crate) fn two(a: u8, b: u8) -> u64
     ensures { (result ≡ a * 256 + b) × (result < 0x1_0000) }
@@ -49,15 +47,16 @@ fn number_of(d: u64) -> u32
     (fours % 0x1_0000 + fours / 0x1_0000) as u32
 }
 
-// The number that eight bytes spell, and whether they are as it is written.
-pub(crate) fn eight_digits(bytes: &[u8]) -> Eight
+// The number that eight bytes spell, where they are as it is written.
+pub(crate) fn eight_digits(bytes: &[u8]) -> Option<u32>
     requires { length bytes.now ≡ 8 }
-    ensures { EightRead bytes.now result }
+    ensures { IfSome result (EightRead bytes.now) }
 {
     let w = one_number(bytes);
     let d = digits_in(w);
-    Eight {
-        value: number_of(d),
-        written: letters_for(d) == w,
+    if letters_for(d) == w {
+        Some(number_of(d))
+    } else {
+        None
     }
 }

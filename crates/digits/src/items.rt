@@ -1,59 +1,41 @@
-ghost use Rattle.std.specs.Prelude.{◌≡◌, ◌-◌, length};
+ghost use Rattle.std.specs.Prelude.{IfSome};
 ghost use Rattle.grammar.specs.Digits.{numbers, floats};
 ghost use Rattle.digits.specs.Standing.{StandsAt};
 
 use crate::Standing;
 
-// How many places of a text there are with eight bytes from there on and one behind them.
-fn places_for_nine(text: &[u8]) -> usize
-    ensures { result ≡ length text.now - 8 }
-{
-    if 8 < text.len() { text.len() - 8 } else { 0 }
-}
-
 // The float at a place, with a byte behind it that ends a word.
-pub fn float_at(text: &[u8], from: usize) -> Standing
-    ensures { StandsAt floats text.now from result }
+pub fn float_at(text: &[u8], from: usize) -> Option<Standing>
+    ensures { IfSome result (StandsAt floats text.now from) }
 {
-    if from < places_for_nine(text) {
+    if from < text.len().saturating_sub(8) {
         let next = from + 8;
         if text[next] < 48 {
-            let e = crate::eights::eight_digits(&text[from..next]);
-            return Standing {
-                value: e.value,
-                next,
-                written: e.written,
-            };
+            let value = crate::eights::eight_digits(&text[from..next])?;
+            return Some(Standing { value, next });
         }
     }
-    crate::longs::none(from)
+    None
 }
 
 // The same for a number of up to eight digits.
-fn decimal_at(text: &[u8], from: usize) -> Standing
-    ensures { StandsAt numbers text.now from result }
+fn decimal_at(text: &[u8], from: usize) -> Option<Standing>
+    ensures { IfSome result (StandsAt numbers text.now from) }
 {
-    if from < places_for_nine(text) {
-        let d = crate::decimals::up_to_eight(&text[from..from + 8]);
+    if from < text.len().saturating_sub(8) {
+        let d = crate::decimals::up_to_eight(&text[from..from + 8])?;
         let next = from + d.count as usize;
         if text[next] < 48 {
-            return Standing {
-                value: d.value,
-                next,
-                written: d.written,
-            };
+            let value = d.value;
+            return Some(Standing { value, next });
         }
     }
-    crate::longs::none(from)
+    None
 }
 
 // The same for any number.
-pub fn number_at(text: &[u8], from: usize) -> Standing
-    ensures { StandsAt numbers text.now from result }
+pub fn number_at(text: &[u8], from: usize) -> Option<Standing>
+    ensures { IfSome result (StandsAt numbers text.now from) }
 {
-    let d = decimal_at(text, from);
-    if d.written {
-        return d;
-    }
-    crate::longs::long_at(text, from)
+    decimal_at(text, from).or_else(|| crate::longs::long_at(text, from))
 }

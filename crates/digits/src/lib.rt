@@ -9,25 +9,16 @@ mod longs;
 
 pub use items::{float_at, number_at};
 
-// An item, and where the text goes on behind it; nothing is said of them unless it is written there.
+// An item, and where the text goes on behind it.
 #[derive(Clone, Copy)]
 pub struct Standing {
     pub value: u32,
     pub next: usize,
-    pub written: bool,
 }
 
-// The number that eight bytes spell in hexadecimal, and whether they are its digits.
-#[derive(Clone, Copy)]
-struct Eight {
-    value: u32,
-    written: bool,
-}
-
-// The number that the first of eight bytes spell in decimal, how many these are, and whether they are its digits.
+// The number that the first of eight bytes spell in decimal, and how many these are.
 #[derive(Clone, Copy)]
 struct Decimal {
     value: u32,
     count: u32,
-    written: bool,
 }

@@ -1,60 +1,38 @@
 // A number in decimal, digit by digit.
-ghost use Rattle.std.specs.Prelude.{◌≡◌, false};
+ghost use Rattle.std.specs.Prelude.{IfSome};
 ghost use Rattle.grammar.specs.Digits.{numbers};
 ghost use Rattle.digits.specs.Standing.{StandsAt, Begins};
 
 use crate::Standing;
 
-// No item.
-pub(crate) fn none(from: usize) -> Standing
-    ensures { result.written ≡ false }
-{
-    Standing {
-        value: 0,
-        next: from,
-        written: false,
-    }
-}
-
 // The number that begins with a digit at one place and goes on at the next, with a byte behind it that ends a word.
-fn long_from(text: &[u8], from: usize, at: usize, first: u32) -> Standing
+fn long_from(text: &[u8], from: usize, at: usize, first: u32) -> Option<Standing>
     requires { Begins text.now from at first }
-    ensures { StandsAt numbers text.now from result }
+    ensures { IfSome result (StandsAt numbers text.now from) }
 {
     let mut value = first;
-    let mut i = at;
-    while i < text.len() {
-        let b = text[i];
+    for next in at..text.len() {
+        let b = text[next];
         if b < 48 {
-            return Standing {
-                value,
-                next: i,
-                written: true,
-            };
+            return Some(Standing { value, next });
         }
         if 57 < b {
-            return none(from);
+            return None;
         }
-        if 0x1999_9998 < value {
-            return none(from);
-        }
-        value = value * 10 + (b - 48) as u32;
-        i += 1;
+        value = value.checked_mul(10)?.checked_add((b - 48) as u32)?;
     }
-    none(from)
+    None
 }
 
 // The same for a number that is told by its place alone, other than 0.
-pub(crate) fn long_at(text: &[u8], from: usize) -> Standing
-    ensures { StandsAt numbers text.now from result }
+pub(crate) fn long_at(text: &[u8], from: usize) -> Option<Standing>
+    ensures { IfSome result (StandsAt numbers text.now from) }
 {
-    if from < text.len() {
-        let b = text[from];
-        if 48 < b {
-            if b < 58 {
-                return long_from(text, from, from + 1, (b - 48) as u32);
-            }
-        }
+    if text.len() <= from {
+        return None;
     }
-    none(from)
+    match text[from] {
+        b @ b'1'..=b'9' => long_from(text, from, from + 1, (b - b'0') as u32),
+        _ => None,
+    }
 }

@@ -4,7 +4,7 @@ ghost use Rattle.model.specs.Matrix.{inverse_transpose};
 ghost use Rattle.model.specs.Inverse.{affine_inverse, normal_matrix};
 ghost use Rattle.borrowed.specs.Written.{Answers};
 
-use scene::{Inverse, Linear, Mat4};
+use scene::Mat4;
 
 // The inverse transpose of the linear part.
 #[unsafe(no_mangle)]
@@ -13,13 +13,13 @@ pub extern "C" fn mesh3d_linear_inverse_transpose(m: &[f32; 16], out: &mut [f32;
 {
     let m = *m;
     match inverse::linear_inverse_transpose(Mat4 { m }) {
-        Linear::Of(l) => {
+        Some(l) => {
             *out = [
                 l.m00, l.m01, l.m02, l.m10, l.m11, l.m12, l.m20, l.m21, l.m22,
             ];
             1
         }
-        Linear::None => 0,
+        None => 0,
     }
 }
 
@@ -30,14 +30,12 @@ pub extern "C" fn mesh3d_mat4_affine_inverse(m: &[f32; 16], out: &mut [f32; 16])
 {
     let m = *m;
     match inverse::mat4_affine_inverse(Mat4 { m }) {
-        Inverse::Of(e) => {
-            *out = [
-                e.m00, e.m01, e.m02, e.m03, e.m10, e.m11, e.m12, e.m13, e.m20, e.m21, e.m22, e.m23,
-                e.m30, e.m31, e.m32, e.m33,
-            ];
+        Some(n) => {
+            let m = n.m;
+            *out = m;
             1
         }
-        Inverse::None => 0,
+        None => 0,
     }
 }
 
@@ -48,12 +46,12 @@ pub extern "C" fn mesh3d_normal_matrix(m: &[f32; 16], out: &mut [f32; 9]) -> u32
 {
     let m = *m;
     match inverse::normal_matrix(Mat4 { m }) {
-        Linear::Of(l) => {
+        Some(l) => {
             *out = [
                 l.m00, l.m01, l.m02, l.m10, l.m11, l.m12, l.m20, l.m21, l.m22,
             ];
             1
         }
-        Linear::None => 0,
+        None => 0,
     }
 }

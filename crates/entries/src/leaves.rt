@@ -15,10 +15,8 @@ pub extern "C" fn mesh3d_sqrt_all(xs: &[f32], out: &mut [f32]) -> usize
     ensures { Writes (map (sqrt_of binary32) xs.now) out result }
 {
     let n = wire::least(xs.len(), out.len());
-    let mut i = 0;
-    while i < n {
+    for i in 0..n {
         out[i] = square_root::sqrt(xs[i]);
-        i += 1;
     }
     n
 }
@@ -29,10 +27,8 @@ pub extern "C" fn mesh3d_narrow_all(xs: &[f64], out: &mut [f32]) -> usize
     ensures { Writes (map narrow_of xs.now) out result }
 {
     let n = wire::least(xs.len(), out.len());
-    let mut i = 0;
-    while i < n {
+    for i in 0..n {
         out[i] = float::narrow(xs[i]);
-        i += 1;
     }
     n
 }
@@ -43,10 +39,8 @@ pub extern "C" fn mesh3d_turn_weight_all(vs: &[f32], cs: &[f32], out: &mut [f32]
     ensures { Writes (zip_with weight vs.now cs.now) out result }
 {
     let n = wire::least(wire::least(vs.len(), cs.len()), out.len());
-    let mut i = 0;
-    while i < n {
+    for i in 0..n {
         out[i] = turn::turn_weight(vs[i], cs[i]);
-        i += 1;
     }
     n
 }

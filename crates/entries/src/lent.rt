@@ -20,7 +20,7 @@ pub extern "C" fn mesh3d_tables_number(
 ) -> u32
     ensures { result ≡ tables_number (scene_lent words floats node_weights mesh_weights header) }
 {
-    checks::tables_number(words, floats, node_weights, mesh_weights, header)
+    refusals::number(checks::check_tables(words, floats, node_weights, mesh_weights, header))
 }
 
 // The mark of each node, written to the start of `out`: 0 for none, 1 for a root, p + 3 where node p lists it. Answers
@@ -36,7 +36,7 @@ pub extern "C" fn mesh3d_parents(
 ) -> u32
     ensures { Parents (scene_lent words floats node_weights mesh_weights header) (change out) result }
 {
-    graph::parents(words, floats, node_weights, mesh_weights, header, out)
+    refusals::number(graph::parents(words, floats, node_weights, mesh_weights, header, out))
 }
 
 // Where every node stands in a given pose. Answers 1, 2, 6 or 0, and the entries taken.
@@ -56,7 +56,7 @@ pub extern "C" fn mesh3d_place_floats(
     ensures { NodesPlaced (scene_lent words floats node_weights mesh_weights header) marks.now
         slots.now (change walk) (change places) (change worlds) result }
 {
-    worlds::posed_node_transforms(
+    Answer::from(worlds::posed_node_transforms(
         words,
         floats,
         node_weights,
@@ -67,7 +67,7 @@ pub extern "C" fn mesh3d_place_floats(
         walk,
         places,
         worlds,
-    )
+    ))
 }
 
 // The pose of every node at a time, in lent slots of four words and ten floats. Answers 1, 2, 3, 5, 6 or 0.
@@ -85,7 +85,7 @@ pub extern "C" fn mesh3d_sample_pose(
     ensures { Posed (scene_lent words floats node_weights mesh_weights header) time (change marks)
         (change slots) result }
 {
-    pose::sample_pose(
+    refusals::number(pose::sample_pose(
         words,
         floats,
         node_weights,
@@ -94,5 +94,5 @@ pub extern "C" fn mesh3d_sample_pose(
         time,
         marks,
         slots,
-    )
+    ))
 }

@@ -5,11 +5,11 @@ ghost use Rattle.model.specs.Vector.{◌⊙◌, ◌⊞◌, norm, normalized};
 ghost use Rattle.model.specs.Matrix.{identity, mul, linear, turned, determinant};
 ghost use Rattle.model.specs.Transform.{from_trs, to_matrix, quaternion, split};
 ghost use Rattle.model.specs.Vertices.{affine_point, transformed_point};
-ghost use Rattle.scene.specs.Values.{vec3, quat, mat3, mat4, trs, transform_of};
+ghost use Rattle.scene.specs.Values.{vec3, quat, mat3, trs, transform_of};
 ghost use Rattle.entries.specs.Handed.{trs_of, chosen};
 ghost use Rattle.borrowed.specs.Written.{Answers};
 
-use scene::{Direction, Mat3, Mat4, Quat, Transform, Trs, Vec3};
+use scene::{Mat3, Mat4, Quat, Transform, Trs, Vec3};
 
 fn vector_of(v: [f32; 3]) -> Vec3
     ensures { vec3 result ≡ v }
@@ -77,11 +77,11 @@ pub extern "C" fn mesh3d_normalize3(v: &[f32; 3], out: &mut [f32; 3]) -> u32
 {
     let v = *v;
     match scene::normalize3(vector_of(v)) {
-        Direction::Unit(u) => {
+        Some(u) => {
             *out = [u.x, u.y, u.z];
             1
         }
-        Direction::None => 0,
+        None => 0,
     }
 }
 
@@ -203,7 +203,7 @@ fn transform_of(
     if mark == 0 {
         return Transform::Trs(trs_of(translation, rotation, scale));
     }
-    Transform::Matrix(scene::entries_of(Mat4 { m }))
+    Transform::Matrix(Mat4 { m })
 }
 
 // The matrix of a transform: of the parts where the mark is 0, else m.

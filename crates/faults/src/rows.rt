@@ -103,11 +103,9 @@ pub(crate) fn rows_fault(words: &[u32], s: Sizes, t: Part, k: Table, n: u32) -> 
     let count = t.count;
     let mut found = no_fault();
     let mut entries: usize = 0;
-    let mut i: usize = 0;
-    while i < count {
+    for i in 0..count {
         entries = checks::capped(entries, entry_count(words, t, k, i));
         found = sooner(found, row_fault(words, s, t, k, n, i, entries));
-        i += 1;
     }
     found
 }

@@ -16,7 +16,7 @@ fn table_fault(words: &[u32], s: Sizes, h: Header, n: u32, k: Table) -> Fault
     ensures { Finds n result (table_spots words.now s h k) }
 {
     let t = checks::table_of(h, k);
-    let number = checks::table_number(words.len(), t, k);
+    let number = refusals::number(checks::check_table(words.len(), t, k));
     if number == n {
         let table = table_index(k);
         return Fault {
@@ -33,7 +33,7 @@ fn table_fault(words: &[u32], s: Sizes, h: Header, n: u32, k: Table) -> Fault
 fn roots_fault(len: usize, roots: Part, n: u32) -> Fault
     ensures { Finds n result (roots_spots len roots) }
 {
-    let drawn = checks::roots_number(len, roots);
+    let drawn = refusals::number(checks::check_roots(len, roots));
     if drawn == n {
         return Fault {
             number: drawn,
@@ -86,7 +86,7 @@ pub fn scene_fault(
 ) -> Fault
     ensures { result ≡ fault_of (scene_lent words floats node_weights mesh_weights h) }
 {
-    let n = checks::tables_number(words, floats, node_weights, mesh_weights, h);
+    let n = refusals::number(checks::check_tables(words, floats, node_weights, mesh_weights, h));
     if n == 0 {
         return no_fault();
     }

@@ -1,18 +1,19 @@
 // The parent of every node, by the rule of graph.rs (`parents`).
 #![tactic(auto)]
 
-use refusals::SHORT_OUTPUT;
+use refusals::Refusal;
 
 mod walk;
 
 ghost use Rattle.borrowed.specs.Slices.{change};
+ghost use Rattle.refusals.specs.Drawn.{number_drawn};
 ghost use Rattle.checks.specs.Drawn.{scene_lent};
 ghost use Rattle.graph.specs.Marks.{Parents};
 
 use tables::Header;
 
 // Writes the mark of each node to the start of `out`: 0 where no way leads to it, 1 for a root, p + 3 where node p
-// listed it first. Where a number is answered, nothing is changed.
+// listed it first. Refused, nothing is changed.
 pub fn parents(
     words: &[u32],
     floats: &[f32],
@@ -20,18 +21,16 @@ pub fn parents(
     mesh_weights: &[f32],
     h: Header,
     out: &mut [u32],
-) -> u32
-    ensures { Parents (scene_lent words floats node_weights mesh_weights h) (change out) result }
+) -> Result<(), Refusal>
+    ensures { Parents (scene_lent words floats node_weights mesh_weights h) (change out)
+        (number_drawn result) }
 {
-    let number = checks::tables_number(words, floats, node_weights, mesh_weights, h);
-    if number != 0 {
-        return number;
-    }
+    checks::check_tables(words, floats, node_weights, mesh_weights, h)?;
     let graph = h.graph;
     let n = graph.nodes.count;
     if out.len() < n {
-        return SHORT_OUTPUT;
+        return Err(Refusal::ShortOutput);
     }
     walk::mark(words, graph, &mut out[..n]);
-    0
+    Ok(())
 }

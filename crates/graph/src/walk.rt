@@ -19,9 +19,7 @@ fn list_roots(roots: &[u32], ids: &mut [u32], marks: &mut [u32]) -> usize
     ensures { Rooted roots.now marks.old ids.new result marks.new }
 {
     let mut top = 0;
-    let mut i = roots.len();
-    while 0 < i {
-        i -= 1;
+    for i in (0..roots.len()).rev() {
         let id = roots[i];
         let k = id as usize;
         if k < marks.len() {
@@ -55,11 +53,8 @@ fn list_all(p: u32, list: &[u32], ids: &mut [u32], marks: &mut [u32], top: usize
     ensures { TurnedIn (mark_all p list.now) ids marks top result }
 {
     let mut at = top;
-    let mut i = list.len();
-    while 0 < i {
-        let k = i - 1;
-        at = list_one(p, list[k], ids, marks, at);
-        i -= 1;
+    for i in (0..list.len()).rev() {
+        at = list_one(p, list[i], ids, marks, at);
     }
     at
 }
@@ -81,7 +76,7 @@ fn step(words: &[u32], nodes: Part, ids: &mut [u32], marks: &mut [u32], top: usi
     t
 }
 
-// Takes all that waits.
+// Takes all that waits: a `while`, since the walk says how often.
 fn drain(words: &[u32], nodes: Part, ids: &mut [u32], marks: &mut [u32], top: usize)
     requires { (top + zeros marks.old ≤ length ids.old) × (length marks.old ≤ node_limit) }
     ensures { Drained words.now nodes ids.old top marks.old
@@ -99,7 +94,7 @@ fn start(roots: &[u32], ids: &mut [u32], marks: &mut [u32]) -> usize
     ensures { Rooted roots.now (replicate (length marks.old) 0) ids.new result
         marks.new }
 {
-    tables::wipe_words(marks);
+    marks.fill(0);
     list_roots(roots, ids, marks)
 }
 

@@ -11,10 +11,9 @@ use Rattle.model.specs.Lists.{pick, every, map_some}
 use Rattle.model.specs.Vector.{Vector}
 use Rattle.model.specs.Matrix.{Matrix, linear, determinant, cofactors, invertible, when_finite, inverse_transpose}
 use Rattle.model.specs.Inverse.{affine, cofactors64, determinant64, inverse_from, translation_of, affine_inverse, transposed, normal_matrix}
-use Rattle.scene.specs.Values.{mat4, inverse_of}
-use Rattle.scene.specs.declared.Entries.{Entries}
-use Rattle.scene.specs.declared.Inverse.{Inverse}
-use Rattle.scene.specs.declared.Inverse.TheVariants as inverse
+use Rattle.scene.specs.Values.{matrix_of}
+use Rattle.scene.specs.declared.Mat4.{Mat4}
+use Rattle.std.proofs.Common as rust
 
 -- n, if b
 abbrev when : Bool → List Float → Option (List Float)
@@ -63,11 +62,11 @@ module _ (m : Matrix) (l₀ l c : List Float) (d : Float) (t : Vector) (n : Matr
   no-inverse e = sym (inverse-by ∙ ap (λ (b : Bool). when b n) e)
 
 -- ---- the normal matrix, by the inverse i
-module _ (m : Matrix) (i : Inverse) (inv : inverse_of i ≡ affine_inverse m) where
-  pub is_normal : (e : Entries) → i ≡ inverse.Of e → some (transposed (mat4 e)) ≡ normal_matrix m
+module _ (m : Matrix) (i : rust.Option Mat4) (inv : matrix_of i ≡ affine_inverse m) where
+  pub is_normal : (n : Mat4) → i ≡ rust.Some n → some (transposed n.m) ≡ normal_matrix m
   unfolding normal_matrix
-  is_normal e p = ap (map_some transposed) (sym (ap inverse_of p) ∙ inv)
+  is_normal n p = ap (map_some transposed) (sym (ap matrix_of p) ∙ inv)
 
-  pub no-normal : i ≡ inverse.None → none ≡ normal_matrix m
+  pub no-normal : i ≡ rust.None → none ≡ normal_matrix m
   unfolding normal_matrix
-  no-normal p = ap (map_some transposed) (sym (ap inverse_of p) ∙ inv)
+  no-normal p = ap (map_some transposed) (sym (ap matrix_of p) ∙ inv)

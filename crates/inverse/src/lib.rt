@@ -9,25 +9,16 @@ ghost use Rattle.model.specs.Lists.{every};
 ghost use Rattle.model.specs.Matrix.{invertible, cofactors, inverse_transpose};
 ghost use Rattle.model.specs.Inverse.{apart, affine, cofactors64, determinant64, inverse_row, inverse_from};
 ghost use Rattle.model.specs.Inverse.{translation_of, affine_inverse, normal_matrix};
-ghost use Rattle.scene.specs.Values.{quat, mat3, mat4, linear_of, inverse_of};
+ghost use Rattle.scene.specs.Values.{quat, mat3, linear_of, matrix_of};
 ghost use Rattle.inverse.specs.Wide.{wide_vec, wide3};
 
-use scene::{
-    Entries, Inverse, Linear, Mat3, Mat4, Quat, entries_to_matrix, linear_det, linear_part,
-};
+use scene::{Mat3, Mat4, Quat, linear_det, linear_part};
 
 // Whether all numbers of s are finite.
 fn are_finite(s: &[f32]) -> bool
     ensures { result ≡ every finite s.now }
 {
-    let mut k = 0usize;
-    while k < s.len() {
-        if !float::is_finite(s[k]) {
-            return false;
-        }
-        k += 1;
-    }
-    true
+    s.iter().all(|x| float::is_finite(*x))
 }
 
 // ---- the normal matrix of skinned vertices, in f32
@@ -73,16 +64,16 @@ fn is_invertible(det: f32) -> bool
     float::is_finite(det) & (det != 0.0)
 }
 
-// The inverse transpose of the linear part, by 1 / determinant.
-pub fn linear_inverse_transpose(m: Mat4) -> Linear
+// The inverse transpose of the linear part, by 1 / determinant; none where there is no such matrix of finite numbers.
+pub fn linear_inverse_transpose(m: Mat4) -> Option<Mat3>
     ensures { linear_of result ≡ inverse_transpose m.m }
 {
     let det = linear_det(m);
     let n = scaled_cofactors(m, 1.0 / det);
     if is_invertible(det) & mat3_is_finite(n) {
-        return Linear::Of(n);
+        return Some(n);
     }
-    Linear::None
+    None
 }
 
 // ---- the inverse of an affine matrix, in f64
@@ -206,71 +197,54 @@ fn inverse_row(a: f64, b: f64, c: f64, r: f64, t: WideVec) -> Quat
 }
 
 // The inverse from the cofactors c, r = 1 / determinant and the translation t, narrowed.
-fn inverse_from(c: Wide3, r: f64, t: WideVec) -> Entries
-    ensures { mat4 result ≡ inverse_from (wide3 c) r (wide_vec t) }
+fn inverse_from(c: Wide3, r: f64, t: WideVec) -> Mat4
+    ensures { result.m ≡ inverse_from (wide3 c) r (wide_vec t) }
 {
     let x = inverse_row(c.m00, c.m10, c.m20, r, t);
     let y = inverse_row(c.m01, c.m11, c.m21, r, t);
     let z = inverse_row(c.m02, c.m12, c.m22, r, t);
-    Entries {
-        m00: x.x,
-        m01: x.y,
-        m02: x.z,
-        m03: x.w,
-        m10: y.x,
-        m11: y.y,
-        m12: y.z,
-        m13: y.w,
-        m20: z.x,
-        m21: z.y,
-        m22: z.z,
-        m23: z.w,
-        m30: 0.0,
-        m31: 0.0,
-        m32: 0.0,
-        m33: 1.0,
+    Mat4 {
+        m: [
+            x.x, x.y, x.z, x.w, y.x, y.y, y.z, y.w, z.x, z.y, z.z, z.w, 0.0, 0.0, 0.0, 1.0,
+        ],
     }
 }
 
-fn entries_are_finite(e: Entries) -> bool
-    ensures { result ≡ every finite (mat4 e) }
+fn mat4_is_finite(m: Mat4) -> bool
+    ensures { result ≡ every finite m.m }
 {
-    let m = entries_to_matrix(e);
     let a = m.m;
     are_finite(&a)
 }
 
 // The inverse, if m is affine, its determinant is finite and not 0, and every entry is finite once narrowed.
-pub fn mat4_affine_inverse(m: Mat4) -> Inverse
-    ensures { inverse_of result ≡ affine_inverse m.m }
+pub fn mat4_affine_inverse(m: Mat4) -> Option<Mat4>
+    ensures { matrix_of result ≡ affine_inverse m.m }
 {
     let l = widen3(linear_part(m));
     let c = cofactors64(l);
     let det = determinant64(l, c);
-    let e = inverse_from(c, 1.0 / det, translation_of(m));
-    if is_affine(m) & is_invertible_f64(det) & entries_are_finite(e) {
-        return Inverse::Of(e);
+    let n = inverse_from(c, 1.0 / det, translation_of(m));
+    if is_affine(m) & is_invertible_f64(det) & mat4_is_finite(n) {
+        return Some(n);
     }
-    Inverse::None
+    None
 }
 
-// The normal matrix of vertices that are transformed: the linear part of the inverse, transposed.
-pub fn normal_matrix(m: Mat4) -> Linear
+// The normal matrix of vertices that are transformed: the linear part of the inverse, transposed, if there is one.
+pub fn normal_matrix(m: Mat4) -> Option<Mat3>
     ensures { linear_of result ≡ normal_matrix m.m }
 {
-    let n = mat4_affine_inverse(m);
-    match n {
-        Inverse::Of(e) => Linear::Of(Mat3 {
-            m00: e.m00,
-            m01: e.m10,
-            m02: e.m20,
-            m10: e.m01,
-            m11: e.m11,
-            m12: e.m21,
-            m20: e.m02,
-            m21: e.m12,
-            m22: e.m22,
-        }),
-        Inverse::None => Linear::None,
-    }
+    let n = mat4_affine_inverse(m)?;
+    Some(Mat3 {
+        m00: n.m[0],
+        m01: n.m[4],
+        m02: n.m[8],
+        m10: n.m[1],
+        m11: n.m[5],
+        m12: n.m[9],
+        m20: n.m[2],
+        m21: n.m[6],
+        m22: n.m[10],
+    })
 }

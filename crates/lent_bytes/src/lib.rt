@@ -4,22 +4,28 @@
 ghost use Rattle.std.specs.Prelude.{◌≡◌, ◌||◌, ◌+◌, ◌/◌, ◌≤◌, ltb, length};
 ghost use Rattle.model.specs.Lists.{pick};
 ghost use Rattle.model.specs.Refusals.{number, short_scratch};
+ghost use Rattle.refusals.specs.Drawn.{number_drawn};
 ghost use Rattle.wire.specs.Bytes.{floats_in};
 ghost use Rattle.lent_bytes.specs.Bytes.{putting_at, floats_of, count_of, where_room, scene_bytes, ends_of};
 
-use refusals::SHORT_SCRATCH;
+use refusals::Refusal;
 
 // What a decoding room of so many words and floats draws, where so many are to be decoded.
-pub fn room_number(words: usize, floats: usize, words_room: usize, floats_room: usize) -> u32
-    ensures { result ≡ pick (ltb words_room words || ltb floats_room floats) (number short_scratch) 0 }
+pub fn check_room(
+    words: usize,
+    floats: usize,
+    words_room: usize,
+    floats_room: usize,
+) -> Result<(), Refusal>
+    ensures { number_drawn result ≡ pick (ltb words_room words || ltb floats_room floats) (number short_scratch) 0 }
 {
     if words_room < words {
-        return SHORT_SCRATCH;
+        return Err(Refusal::ShortScratch);
     }
     if floats_room < floats {
-        return SHORT_SCRATCH;
+        return Err(Refusal::ShortScratch);
     }
-    0
+    Ok(())
 }
 
 // How many floats three slices hold together.

@@ -1,8 +1,12 @@
 -- What was found, one thing after the other, beside the fields from a place on. Definitions only.
-use Rattle.std.specs.Prelude.{◌&&◌, List, ℕ, eqb, Float, get_or}
+use Rattle.std.specs.Prelude.{Bool, ◌&&◌, List, ℕ, eqb, Float, get_or}
 use Rattle.comparing.specs.Compared.{same_words, same_floats}
 use Rattle.lists.specs.Fields.{ahead_of, behind_list, list_at}
-use Rattle.lists.specs.declared.Checked.{Checked}
+
+-- whether all that was found so far is what the fields say, and the place of the next one
+pub record Checked : Type 0 where
+  pub same : Bool
+  pub at : ℕ
 
 -- a number, which is the next field
 abbrev pub number_next : List ℕ → Checked → ℕ → Checked

@@ -1,5 +1,7 @@
 -- Hexadecimal digits, in bytes, as numbers. Definitions only.
-use Rattle.std.specs.Prelude.{Bool, true, ◌&&◌, ◌||◌, List, ℕ, zero, suc, ◌+◌, ◌*◌, ◌/◌, ◌%◌, leb, eqb, get_or}
+use Rattle.std.specs.Prelude.{◌≡◌, Bool, true, ◌&&◌, ◌||◌, List, ℕ, zero, suc, ◌+◌, ◌*◌, ◌/◌, ◌%◌, leb, eqb, get_or, length, take, drop, Option, Some, None}
+use Rattle.std.specs.Option.{option_map}
+use Rattle.model.specs.Lists.{pick}
 
 -- of 0 to 9 and of letters, small or large, their value; of any other byte some number below 16
 abbrev pub digit_of : ℕ → ℕ
@@ -26,3 +28,24 @@ is_behind b = eqb b 32 || eqb b 10
 -- eight digits, and what stands behind a field
 abbrev pub is_field : List ℕ → ℕ → Bool
 is_field s from = are_digits s from 8 && is_behind (get_or s (from + 8) 0)
+
+-- the value of a digit, the number that bytes spell, and of more than eight digits that of the last eight; there is none
+-- where a byte is no digit
+abbrev pub digit_in : ℕ → Option ℕ
+digit_in b = pick (is_digit b) (Some (digit_of b)) None
+
+abbrev pub number_of : List ℕ → Option ℕ
+number_of s = pick (are_digits s 0 (length s)) (Some (spelled s 0 (length s))) None
+
+abbrev pub word_of : List ℕ → Option ℕ
+word_of s = option_map (λ n. n % 0x1_0000_0000) (number_of s)
+
+-- the word of nine bytes that are a field
+abbrev pub field_in : List ℕ → Option ℕ
+field_in s = pick (eqb (length s) 9 && is_field s 0) (Some (spelled s 0 8 % 0x1_0000_0000)) None
+
+-- a field that a text begins with, and what is behind it
+pub record NextField (text : List ℕ) (word : ℕ) (behind : List ℕ) : Type 0 where
+  pub field : field_in (take 9 text) ≡ Some word
+  pub rest : behind ≡ drop 9 text
+  pub counted : length behind + 9 ≡ length text

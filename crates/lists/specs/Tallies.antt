@@ -1,6 +1,6 @@
 -- Counts of answers. Definitions only.
 use Rattle.std.specs.Prelude.{Bool, true, false, ◌&&◌, ◌+◌, ◌%◌, ltb, eqb}
-use Rattle.lists.specs.declared.Tally.{Tally}
+use Rattle.lists.specs.declared.counting.Tally.{Tally}
 
 -- one answer more, which is the same or differs; a count starts anew at 2^31
 abbrev pub counted : Tally → Bool → Tally

@@ -1,29 +1,34 @@
 ghost use Rattle.std.specs.Prelude.{◌≡◌};
-ghost use Rattle.lists.specs.Tallies.{counted, all_same};
 
-use crate::Tally;
-use crate::printing::text;
-use std::io;
+use std::fmt;
+
+// How many answers were seen, and how many of them differ.
+#[derive(Clone, Copy, Debug, PartialEq, Eq)]
+pub struct Tally {
+    pub seen: u32,
+    pub differ: u32,
+}
+
+// A count starts anew here, far above the length of any list.
+const COUNTS: u32 = 0x8000_0000;
 
 impl Tally {
+    ghost use Rattle.lists.specs.Tallies.{counted, all_same};
+
     pub fn new() -> Self
         ensures { result ≡ record { seen = 0; differ = 0 } }
     {
         Tally { seen: 0, differ: 0 }
     }
 
-    // One answer more. The counts stay below 2^31, far above the length of any list.
+    // One answer more.
     pub fn with(self, same: bool) -> Self
         ensures { result ≡ counted self same }
     {
-        let seen = self.seen % 0x8000_0000 + 1;
-        let differ = self.differ % 0x8000_0000;
-        if same {
-            return Tally { seen, differ };
-        }
+        let differs = if same { 0 } else { 1 };
         Tally {
-            seen,
-            differ: differ + 1,
+            seen: self.seen % COUNTS + 1,
+            differ: self.differ % COUNTS + differs,
         }
     }
 
@@ -31,11 +36,14 @@ impl Tally {
     pub fn all_same(self) -> bool
         ensures { result ≡ all_same self }
     {
-        (0 < self.seen) & (self.differ == 0)
+        0 < self.seen && self.differ == 0
     }
+}
 
-    pub fn print(self, out: &impl Print, what: &[u8]) -> io::Result<()> {
-        text(out, what)?;
-        println!(out; ": {} answers, {} differ", self.seen, self.differ)
+impl fmt::Display for Tally {
+    fn fmt<W: fmt::Write>(&self, f: &mut fmt::Formatter<W>) -> fmt::Result {
+        let seen = self.seen;
+        let differ = self.differ;
+        write!(f, "{seen} answers, {differ} differ")
     }
 }

@@ -1,71 +1,79 @@
 // Fields of a reader: eight hexadecimal digits with a blank or a line's end behind them.
-ghost use Rattle.std.specs.Prelude.{ℕ, IfOk, OnErr};
-ghost use Rattle.std.specs.Io.{ReadsAtMost};
-ghost use Rattle.lists.specs.Fields.{Puts};
+ghost use Rattle.std.specs.Prelude.{◌≡◌, IfOk, IfSome, None, MatchOption, take};
+ghost use Rattle.lists.specs.Inputs.{room_for, HasFields};
+ghost use Rattle.lists.specs.Digits.{is_behind, field_in, NextField};
 
-use crate::Input;
-use crate::digits::{is_field, word};
+use crate::digits::word;
+use std::alloc::{AllocError, Global};
 use std::io;
 use std::io::Read;
 
-// Reads until `buf` is full or the input ends, and answers how many bytes stand at its start.
-pub fn read_full<R: Read>(input: &mut R, buf: &mut [u8]) -> io::Result<usize>
-    ensures { ReadsAtMost result buf.new }
+// The fields of an input, and whether these are all of it. Those of a damaged input are replayed too, so this is no
+// Result.
+#[derive(Drop)]
+pub struct Input {
+    pub fields: Vec<u32>,
+    pub whole: bool,
+}
+
+fn is_behind(b: u8) -> bool
+    ensures { result ≡ is_behind b }
 {
-    let mut done = 0;
-    while done < buf.len() {
-        let n = input.read(&mut buf[done..])?;
-        if n == 0 {
-            break;
-        }
-        done += n;
-    }
-    Ok(done)
+    b == b' ' || b == b'\n'
 }
 
-// What nine bytes of the input say: a word if they are a field; and whether the input has ended before them.
-#[derive(Clone, Copy)]
-struct Next {
-    word: u32,
-    is_field: bool,
-    is_end: bool,
-}
-
-fn next_in(text: &[u8; 9], count: usize) -> Next {
-    Next {
-        word: word(text, 0),
-        is_field: (count == 9) & is_field(text, 0),
-        is_end: count == 0,
-    }
-}
-
-fn read_next<R: Read>(input: &mut R) -> io::Result<Next> {
-    let mut text = [0u8; 9];
-    let count = read_full(input, &mut text)?;
-    Ok(next_in(&text, count))
-}
-
-// Reads fields to the start of `out`, to the end of the input or as far as there is room. Where a read fails, the
-// fields before it stand there.
-pub fn read_fields<R: Read>(input: &mut R, out: &mut [u32]) -> io::Result<Input>
-    ensures ok { IfOk result (λ fields. Puts out fields.count) }
-    ensures err { OnErr result ((n : ℕ) × Puts out n) }
+// The word of a field.
+fn field_in(text: &[u8]) -> Option<u32>
+    ensures { result ≡ field_in text.now }
 {
-    let mut n = 0;
-    while n < out.len() {
-        let next = read_next(input)?;
-        if !next.is_field {
-            return Ok(Input {
-                count: n,
-                whole: next.is_end,
-            });
-        }
-        out[n] = next.word;
-        n += 1;
+    if text.len() == 9 && is_behind(text[8]) {
+        word(&text[..8])
+    } else {
+        None
     }
-    let next = read_next(input)?;
-    Ok(Input {
-        count: n,
-        whole: next.is_end,
-    })
+}
+
+// The field that a text begins with, and the text behind it.
+fn next_field(text: &[u8]) -> Option<(u32, &[u8])>
+    ensures { MatchOption result (field_in (take 9 text.now) ≡ None) (λ p. NextField text.now p.0 p.1.now) }
+{
+    let (field, rest) = text.split_at_checked(9)?;
+    Some((field_in(field)?, rest))
+}
+
+impl Input {
+    // The first fields of a text, to bytes that are none.
+    fn parse(alloc: Global, text: &[u8], most: usize) -> Result<Self, AllocError>
+        ensures { IfOk result (HasFields text.now most) }
+    {
+        let mut fields = Vec::new(alloc);
+        let mut rest = text;
+        for _done in 0..most {
+            let Some((word, behind)) = next_field(rest) else {
+                break;
+            };
+            fields.push(word)?;
+            rest = behind;
+        }
+        let whole = rest.is_empty();
+        Ok(Input { fields, whole })
+    }
+}
+
+// Reads up to `most` bytes.
+pub fn read_bytes<R: Read + Drop>(alloc: Global, input: R, most: u64) -> io::Result<Vec<u8>>
+    ensures { IfOk result (λ bytes. IfSome (R.remaining input) (λ all. bytes.items ≡ take most all)) }
+{
+    let mut bytes = Vec::new(alloc);
+    input.take(most).read_to_end(&mut bytes)?;
+    Ok(bytes)
+}
+
+// Reads fields, to the end of the input, to bytes that are none or up to `most` of them.
+pub fn read_fields<R: Read + Drop>(alloc: Global, input: R, most: usize) -> io::Result<Input>
+    ensures { IfOk result (λ i. IfSome (R.remaining input) (λ all. HasFields (take (room_for most) all) most i)) }
+{
+    let room = (most as u64).saturating_add(1).saturating_mul(9);
+    let text = read_bytes(alloc, input, room)?;
+    Ok(Input::parse(alloc, &text, most)?)
 }

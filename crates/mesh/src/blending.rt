@@ -52,10 +52,8 @@ fn widened_by_all(
 {
     let count = betweens.count;
     let mut b = start;
-    let mut k = 0;
-    while k < count {
+    for k in 0..count {
         b = widened_at(words, floats, h, betweens, w, b, k);
-        k += 1;
     }
     b
 }

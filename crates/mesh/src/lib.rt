@@ -46,12 +46,10 @@ pub fn morphed(
         tangents }
 {
     let n = wire::least(targets.count, weights.len());
-    let mut k = 0;
-    while k < n {
+    for k in 0..n {
         let w = weights[k];
         targets::add_numbered(
             words, floats, h, targets, k, w, positions, normals, tangents,
         );
-        k += 1;
     }
 }

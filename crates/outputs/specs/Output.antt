@@ -1,9 +1,10 @@
 -- A result that is copied into an output: scope, "Numbers when a piece is turned down". Definitions only.
-use Rattle.std.specs.Prelude.{◌≡◌, List, ◌++◌, ℕ, zero, suc, eqb, ltb, length, drop, Float}
+use Rattle.std.specs.Prelude.{◌≡◌, List, ◌++◌, ℕ, zero, suc, eqb, ltb, length, drop, Float, Result}
 use Rattle.borrowed.specs.Slices.{Floats}
 use Rattle.model.specs.Lists.{pick}
 use Rattle.model.specs.Refusals.{number, short_output}
-use Rattle.outputs.specs.declared.Copied.{Copied}
+use Rattle.refusals.specs.declared.Refusal.{Refusal}
+use Rattle.refusals.specs.Drawn.{number_drawn, count_of}
 
 -- the number of the call for a result of n entries; where that is 0, short output if there is room for fewer
 abbrev pub output_number : ℕ → ℕ → ℕ → ℕ
@@ -17,6 +18,6 @@ pub record CopiedOut {A : Type 0} (drawn : ℕ) (result lent left : List A) (tol
   pub slice : left ≡ pick (eqb told 0) (result ++ drop (length result) lent) lent
 
 -- in a slice that is borrowed
-abbrev pub CopiesOut : ℕ → List Float → Floats → Copied → Type 0
+abbrev pub CopiesOut : ℕ → List Float → Floats → Result ℕ Refusal → Type 0
 CopiesOut drawn result out told =
-    CopiedOut drawn result out.entry.now out.exit.now told.number told.count
+    CopiedOut drawn result out.entry.now out.exit.now (number_drawn told) (count_of told)

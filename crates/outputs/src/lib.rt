@@ -1,31 +1,19 @@
 // Results that are copied into an output.
 #![tactic(auto)]
 
+ghost use Rattle.refusals.specs.Drawn.{number_drawn};
 ghost use Rattle.outputs.specs.Output.{CopiesOut};
 
-use refusals::SHORT_OUTPUT;
+use refusals::Refusal;
 
-// A refusal number, or 0, and how many floats were copied.
-#[derive(Clone, Copy)]
-pub struct Copied {
-    pub number: u32,
-    pub count: usize,
-}
-
-// Copies a result to the start of `out`, where the number of the call for it is 0; without room for all of it the
-// number is 10. Where a number is answered, nothing is changed.
-pub fn copy_out(number: u32, res: &[f32], out: &mut [f32]) -> Copied
-    ensures { CopiesOut number res.now out result }
+// Copies a result to the start of `out`, where the call for it is accepted, and answers how many floats were copied.
+// Without room for all of them the output is short. Where a refusal is answered, nothing is changed.
+pub fn copy_out(drawn: Result<(), Refusal>, res: &[f32], out: &mut [f32]) -> Result<usize, Refusal>
+    ensures { CopiesOut (number_drawn drawn) res.now out result }
 {
-    if number != 0 {
-        return Copied { number, count: 0 };
-    }
+    drawn?;
     if out.len() < res.len() {
-        return Copied {
-            number: SHORT_OUTPUT,
-            count: 0,
-        };
+        return Err(Refusal::ShortOutput);
     }
-    let count = wire::copy_floats(res, out);
-    Copied { number: 0, count }
+    Ok(wire::copy_floats(res, out))
 }

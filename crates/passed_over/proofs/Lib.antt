@@ -4,3 +4,4 @@ pub mod TableLaws
 pub mod FirstLaws
 pub mod CallLaws
 pub mod PassedLaws
+pub mod Codes

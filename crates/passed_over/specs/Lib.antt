@@ -1,2 +1,3 @@
 pub mod Reasons
 pub mod Passed
+pub mod Told

@@ -23,17 +23,14 @@ fn first_from(
         (drop from (channels_in words.now floats.now channels)) }
 {
     let count = channels.count;
-    let mut k = from;
-    while k < count {
-        let reason = reason_at(floats, tables::channel_row(words, channels, k), n, time);
-        if reason != 0 {
+    for k in from..count {
+        if let Some(reason) = reason_at(floats, tables::channel_row(words, channels, k), n, time) {
             return PassedOver {
                 number: 0,
-                reason,
+                reason: u32::from(reason),
                 channel: k,
             };
         }
-        k += 1;
     }
     PassedOver {
         number: 0,
@@ -57,10 +54,9 @@ pub fn first_passed_over(
 {
     let graph = h.graph;
     let n = graph.nodes.count;
-    let number = pose::pose_number(words, floats, node_weights, mesh_weights, h, time, n);
-    if number != 0 {
+    if let Err(e) = pose::check_pose(words, floats, node_weights, mesh_weights, h, time, n) {
         return PassedOver {
-            number,
+            number: u32::from(e),
             reason: 0,
             channel: 0,
         };

@@ -1,19 +1,35 @@
 // The first channel that a pose passes over, and why: such a channel changes nothing, and draws no number.
 #![tactic(auto)]
 
+ghost use Rattle.std.specs.Prelude.{◌≡◌};
+ghost use Rattle.passed_over.specs.Told.{code_of};
+
 mod calls;
 mod reasons;
 
 pub use calls::first_passed_over;
 
-// Its target is past the last node.
-pub const NO_NODE: u32 = 1;
-// Its layout is not even.
-pub const UNEVEN_LAYOUT: u32 = 2;
-// The kind of its values does not fit its property.
-pub const UNFIT_KIND: u32 = 3;
-// It gives a rotation whose length at this time is 0 or not finite.
-pub const NO_LENGTH: u32 = 4;
+// Why a channel is passed over.
+#[derive(Clone, Copy, PartialEq, Eq)]
+pub enum Reason {
+    // Its target is past the last node.
+    NoNode = 1,
+    // Its layout is not even.
+    UnevenLayout,
+    // The kind of its values does not fit its property.
+    UnfitKind,
+    // It gives a rotation whose length at this time is 0 or not finite.
+    NoLength,
+}
+
+// The reason's number in the C interface.
+impl From<Reason> for u32 {
+    ghost from_gives = { λ r n. n ≡ code_of r };
+
+    fn from(r: Reason) -> u32 {
+        r as u32
+    }
+}
 
 // The refusal number of the pose, or 0; the reason, or 0 where no channel is passed over; and the channel.
 #[repr(C)]

@@ -6,10 +6,11 @@ ghost use Rattle.tracks.specs.Values.{kind_of};
 ghost use Rattle.tables.specs.Tags.{track_for, property_of};
 ghost use Rattle.pose_slots.specs.Channels.{channel_in};
 ghost use Rattle.pose.specs.Lines.{out_of_line};
+ghost use Rattle.passed_over.specs.Told.{code_told};
 ghost use Rattle.passed_over.specs.Reasons.{fits, reason_for};
 ghost use Rattle.passed_over.specs.Passed.{is_something};
 
-use crate::{NO_LENGTH, NO_NODE, UNEVEN_LAYOUT, UNFIT_KIND};
+use crate::Reason;
 use pose_slots::Gift;
 use tables::{ChannelRow, Property};
 use tracks::Kind;
@@ -59,25 +60,25 @@ fn is_something(g: Gift) -> bool
     }
 }
 
-// Why a channel gives none of n nodes anything at a time, or 0.
-pub(crate) fn reason_at(floats: &[f32], row: ChannelRow, n: usize, time: f32) -> u32
+// Why a channel gives none of n nodes anything at a time, if it does not.
+pub(crate) fn reason_at(floats: &[f32], row: ChannelRow, n: usize, time: f32) -> Option<Reason>
     requires { (table_number floats.now (track_for row) ≡ 0) × (is_nan time ≡ false)
         × (out_of_line n (channel_in floats.now row) ≡ false) }
-    ensures { result ≡ reason_for time n (channel_in floats.now row) }
+    ensures { code_told result ≡ reason_for time n (channel_in floats.now row) }
 {
     if n <= row.target as usize {
-        return NO_NODE;
+        return Some(Reason::NoNode);
     }
     let track = tables::track_of(row);
     if tracks::track_stride(track) == 0 {
-        return UNEVEN_LAYOUT;
+        return Some(Reason::UnevenLayout);
     }
     let kind = track.kind;
     if !fits(tables::property_of(row), kind) {
-        return UNFIT_KIND;
+        return Some(Reason::UnfitKind);
     }
     if is_something(pose_slots::gift_at(floats, row, time)) {
-        return 0;
+        return None;
     }
-    NO_LENGTH
+    Some(Reason::NoLength)
 }

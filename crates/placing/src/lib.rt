@@ -85,11 +85,11 @@ fn step(
 fn finish(walk: &mut [u32], run: Run) -> Run
     ensures { (result ≡ run) × Wiped (change walk) }
 {
-    tables::wipe_words(walk);
+    walk.fill(0);
     run
 }
 
-// Takes entries until the stack is empty, and wipes the room.
+// Takes entries until the stack is empty, and wipes the room: a `while`, since the walk says how often.
 fn drain(
     words: &[u32],
     graph: Graph,
@@ -122,7 +122,7 @@ fn start(words: &[u32], graph: Graph, walk: &mut [u32], places: &mut [u32]) -> u
     requires { 2 * length (roots_in words.now graph) ≤ length walk.old }
     ensures { Started (listing_in words.now graph) (change places) (change walk) result }
 {
-    tables::wipe_words(places);
+    places.fill(0);
     push(tables::words_in(words, graph.roots, 1), 1, walk, 0)
 }
 

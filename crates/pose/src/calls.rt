@@ -1,5 +1,6 @@
 ghost use Rattle.std.specs.Prelude.{◌≡◌, ◌/◌, min};
 ghost use Rattle.borrowed.specs.Slices.{change};
+ghost use Rattle.refusals.specs.Drawn.{number_drawn};
 ghost use Rattle.checks.specs.Drawn.{scene_lent};
 ghost use Rattle.pose_slots.specs.Channels.{channels_in};
 ghost use Rattle.pose.specs.Lines.{Drivable};
@@ -7,7 +8,7 @@ ghost use Rattle.pose.specs.Encoded.{Encoded, pose_number_for, Posed};
 
 use crate::lines::keys_out_of_line;
 use crate::sampler::{clear, drive_all};
-use refusals::{KEYS_OUT_OF_LINE, NO_TIME, SHORT_SCRATCH};
+use refusals::Refusal;
 use tables::Header;
 use tracks::Part;
 
@@ -20,8 +21,8 @@ fn slots_in(marks: usize, slots: usize) -> usize
     if a < b { a } else { b }
 }
 
-// The number of a call for the pose at a time, with slots for so many nodes.
-pub fn pose_number(
+// What a call for the pose at a time draws, with slots for so many nodes.
+pub fn check_pose(
     words: &[u32],
     floats: &[f32],
     node_weights: &[f32],
@@ -29,24 +30,22 @@ pub fn pose_number(
     h: Header,
     time: f32,
     slots: usize,
-) -> u32
-    ensures { result ≡ pose_number_for (scene_lent words floats node_weights mesh_weights h) time slots }
+) -> Result<(), Refusal>
+    ensures { number_drawn result
+        ≡ pose_number_for (scene_lent words floats node_weights mesh_weights h) time slots }
 {
-    let drawn = checks::tables_number(words, floats, node_weights, mesh_weights, h);
-    if drawn != 0 {
-        return drawn;
-    }
+    checks::check_tables(words, floats, node_weights, mesh_weights, h)?;
     if float::is_nan(time) {
-        return NO_TIME;
+        return Err(Refusal::NoTime);
     }
     if keys_out_of_line(words, floats, h) {
-        return KEYS_OUT_OF_LINE;
+        return Err(Refusal::KeysOutOfLine);
     }
     let graph = h.graph;
     if slots < graph.nodes.count {
-        return SHORT_SCRATCH;
+        return Err(Refusal::ShortScratch);
     }
-    0
+    Ok(())
 }
 
 // The poses of n nodes, in slots that hold anything: a stage, for tables and a time that have been checked.
@@ -78,15 +77,12 @@ pub fn sample_pose(
     time: f32,
     marks: &mut [u32],
     slots: &mut [f32],
-) -> u32
+) -> Result<(), Refusal>
     ensures { Posed (scene_lent words floats node_weights mesh_weights h) time (change marks)
-        (change slots) result }
+        (change slots) (number_drawn result) }
 {
     let space = slots_in(marks.len(), slots.len());
-    let number = pose_number(words, floats, node_weights, mesh_weights, h, time, space);
-    if number != 0 {
-        return number;
-    }
+    check_pose(words, floats, node_weights, mesh_weights, h, time, space)?;
     let graph = h.graph;
     pose_all(
         words,
@@ -97,5 +93,5 @@ pub fn sample_pose(
         marks,
         slots,
     );
-    0
+    Ok(())
 }

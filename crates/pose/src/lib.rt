@@ -5,5 +5,5 @@ mod calls;
 mod lines;
 mod sampler;
 
-pub use calls::{pose_all, pose_number, sample_pose};
+pub use calls::{check_pose, pose_all, sample_pose};
 pub use lines::keys_out_of_line;

@@ -8,7 +8,7 @@ ghost use Rattle.checks.specs.Drawn.{lent_as};
 ghost use Rattle.pose_slots.specs.Channels.{channel_in, channels_in};
 ghost use Rattle.pose.specs.Lines.{out_of_line, NoneDrawn};
 
-use refusals::{KEYS_OUT_OF_LINE, WEIGHT_LIMIT};
+use refusals::{Refusal, WEIGHT_LIMIT};
 use tables::{ChannelRow, Header};
 use tracks::Part;
 
@@ -18,8 +18,8 @@ fn is_out_of_line(floats: &[f32], row: ChannelRow, n: usize) -> bool
     ensures { result ≡ out_of_line n (channel_in floats.now row) }
 {
     if (row.target as usize) < n {
-        return animation::sample_number(floats, tables::track_of(row), 0.0, WEIGHT_LIMIT)
-            == KEYS_OUT_OF_LINE;
+        return animation::check_sample(floats, tables::track_of(row), 0.0, WEIGHT_LIMIT)
+            == Err(Refusal::KeysOutOfLine);
     }
     false
 }
@@ -30,12 +30,10 @@ fn some_out_of_line(words: &[u32], floats: &[f32], channels: Part, n: usize) -> 
     ensures { result ≡ any_of (out_of_line n) (channels_in words.now floats.now channels) }
 {
     let count = channels.count;
-    let mut k: usize = 0;
-    while k < count {
+    for k in 0..count {
         if is_out_of_line(floats, tables::channel_row(words, channels, k), n) {
             return true;
         }
-        k += 1;
     }
     false
 }

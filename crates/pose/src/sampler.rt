@@ -99,8 +99,7 @@ pub(crate) fn drive_all(
     ensures { Encoded (channels_in words.now floats.now channels) time n marks slots }
 {
     let count = channels.count;
-    let mut k: usize = 0;
-    while k < count {
+    for k in 0..count {
         drive(
             floats,
             tables::channel_row(words, channels, k),
@@ -110,7 +109,6 @@ pub(crate) fn drive_all(
             marks,
             slots,
         );
-        k += 1;
     }
 }
 
@@ -119,9 +117,7 @@ pub(crate) fn clear(marks: &mut [u32], slots: &mut [f32], n: usize)
     requires { n ≤ room marks.old slots.old }
     ensures { Cleared n marks slots }
 {
-    let mut i: usize = 0;
-    while i < n {
+    for i in 0..n {
         store_pose(marks, slots, i, at_rest(), 0);
-        i += 1;
     }
 }

@@ -3,10 +3,11 @@ use mathlib.Core.Path.{◌≡◌, refl, sym, ap, ◌∙◌, subst}
 use mathlib.Core.Bool.{Bool, true, false, not, ◌&&◌, ◌||◌, true≢false}
 use mathlib.Core.List.{List, []}
 use mathlib.Core.Option.{Option, none, some}
-use Prim.Native.Nat.{ℕ}
+use Prim.Native.Nat.{ℕ, suc}
 use native.Mathlib.Omega.{arith}
 use borrow.Author.Tests.{not-false}
 use lib.Dec.{ltb}
+use Rattle.std.proofs.Common.{Result, Ok, Err}
 use lib.Ieee.{Float, is_nan}
 use lib.ListN.{length}
 use Rattle.model.specs.Limits.{key_limit, weight_limit}
@@ -14,12 +15,13 @@ use Rattle.model.specs.Lists.{pick}
 use Rattle.model.specs.Vector.{Vector}
 use Rattle.model.specs.Scene.{Property, Kind, vec3s, quats, scalars, Interpolation, step, linear, cubic_spline, Track}
 use Rattle.model.specs.Sampling.{even, stride, row_width, in_line, Where, before, on, between, after, locate, interpolated, value_at, sample}
-use Rattle.model.specs.Refusals.{is_scalars, track_over_limit}
+use Rattle.model.specs.Refusals.{is_scalars, track_over_limit, sample_number}
 use Rattle.model.specs.Calls.{Sampled, delivered, sampled_or, sampled}
 use Rattle.model.proofs.Located.{locate-in-range}
 use Rattle.model.proofs.Numbers.{short_for, sample-tests}
 use Rattle.model.proofs.Sampled.{stride-some, value-width}
 use Rattle.scene.specs.Values.{vec3, quat}
+use Rattle.refusals.specs.declared.Refusal.{Refusal}
 use Rattle.animation.specs.declared.SampledValue.{SampledValue}
 use Rattle.animation.specs.declared.SampledValue.TheVariants as value
 use Rattle.tracks.specs.declared.Track as animation
@@ -56,11 +58,11 @@ module _ (tr : Track) (time : Float) where
   abbrev value_of : Vector
   value_of = value_at tr time (locate tr.keys time)
 
-  abbrev pub Told : SampledValue → Type 0
-  Told (value.Vec3 v) = (tr.kind ≡ vec3s) × (sample tr time ≡ some (vec3 v))
-  Told (value.Quat q) = (tr.kind ≡ quats) × (sample tr time ≡ some (quat q))
-  Told (value.Scalar n) = (tr.kind ≡ scalars) × (sample tr time ≡ some value_of)
-  Told (value.Refused n) = sample tr time ≡ none
+  abbrev pub Told : Result SampledValue Refusal → Type 0
+  Told (Ok (value.Vec3 v)) = (tr.kind ≡ vec3s) × (sample tr time ≡ some (vec3 v))
+  Told (Ok (value.Quat q)) = (tr.kind ≡ quats) × (sample tr time ≡ some (quat q))
+  Told (Ok (value.Scalar n)) = (tr.kind ≡ scalars) × (sample tr time ≡ some value_of)
+  Told (Err n) = sample tr time ≡ none
 
   by-even : (e : Bool) → even tr ≡ e → sample tr time ≡ pick e (some value_of) none
   unfolding sample
@@ -74,24 +76,24 @@ module _ (tr : Track) (time : Float) where
     abbrev refusal : Sampled
     refusal = record { number = 4; value = []; weights = 0; slice = lent }
 
-    by_kind : (e : Bool) → even tr ≡ e → (κ : Kind) → tr.kind ≡ κ → (s : SampledValue)
+    by_kind : (e : Bool) → even tr ≡ e → (κ : Kind) → tr.kind ≡ κ → (s : Result SampledValue Refusal)
         → answer_of s left ≡ pick e (delivered κ (stride tr) value_of lent) refusal → Told s
-    by_kind false e κ k (value.Refused n) h = by-even false e
-    by_kind false e κ k (value.Vec3 v) h = let z = ap (λ (a : Sampled). a.number) h in absurd (omega (arith, z))
-    by_kind false e κ k (value.Quat q) h = let z = ap (λ (a : Sampled). a.number) h in absurd (omega (arith, z))
-    by_kind false e κ k (value.Scalar n) h = let z = ap (λ (a : Sampled). a.number) h in absurd (omega (arith, z))
-    by_kind true e vec3s k (value.Vec3 v) h = (k, by-even true e ∙ ap some (sym (ap (λ (a : Sampled). a.value) h)))
-    by_kind true e vec3s k (value.Quat q) h = let z = ap (λ (a : Sampled). length a.value) h in absurd (omega (arith, z, width_is e vec3s k))
-    by_kind true e vec3s k (value.Scalar n) h = let z = ap (λ (a : Sampled). length a.value) h in absurd (omega (arith, z, width_is e vec3s k))
-    by_kind true e vec3s k (value.Refused n) h = let z = ap (λ (a : Sampled). length a.value) h in absurd (omega (arith, z, width_is e vec3s k))
-    by_kind true e quats k (value.Vec3 v) h = let z = ap (λ (a : Sampled). length a.value) h in absurd (omega (arith, z, width_is e quats k))
-    by_kind true e quats k (value.Quat q) h = (k, by-even true e ∙ ap some (sym (ap (λ (a : Sampled). a.value) h)))
-    by_kind true e quats k (value.Scalar n) h = let z = ap (λ (a : Sampled). length a.value) h in absurd (omega (arith, z, width_is e quats k))
-    by_kind true e quats k (value.Refused n) h = let z = ap (λ (a : Sampled). length a.value) h in absurd (omega (arith, z, width_is e quats k))
-    by_kind true e scalars k (value.Vec3 v) h = let z = ap (λ (a : Sampled). length a.value) h in absurd (omega (arith, z))
-    by_kind true e scalars k (value.Quat q) h = let z = ap (λ (a : Sampled). length a.value) h in absurd (omega (arith, z))
-    by_kind true e scalars k (value.Scalar n) h = (k, by-even true e)
-    by_kind true e scalars k (value.Refused n) h = let z = ap (λ (a : Sampled). a.weights) h in absurd (omega (arith, z, stride-some tr e))
+    by_kind false e κ k (Err n) h = by-even false e
+    by_kind false e κ k (Ok (value.Vec3 v)) h = let z = ap (λ (a : Sampled). a.number) h in absurd (omega (arith, z))
+    by_kind false e κ k (Ok (value.Quat q)) h = let z = ap (λ (a : Sampled). a.number) h in absurd (omega (arith, z))
+    by_kind false e κ k (Ok (value.Scalar n)) h = let z = ap (λ (a : Sampled). a.number) h in absurd (omega (arith, z))
+    by_kind true e vec3s k (Ok (value.Vec3 v)) h = (k, by-even true e ∙ ap some (sym (ap (λ (a : Sampled). a.value) h)))
+    by_kind true e vec3s k (Ok (value.Quat q)) h = let z = ap (λ (a : Sampled). length a.value) h in absurd (omega (arith, z, width_is e vec3s k))
+    by_kind true e vec3s k (Ok (value.Scalar n)) h = let z = ap (λ (a : Sampled). length a.value) h in absurd (omega (arith, z, width_is e vec3s k))
+    by_kind true e vec3s k (Err n) h = let z = ap (λ (a : Sampled). length a.value) h in absurd (omega (arith, z, width_is e vec3s k))
+    by_kind true e quats k (Ok (value.Vec3 v)) h = let z = ap (λ (a : Sampled). length a.value) h in absurd (omega (arith, z, width_is e quats k))
+    by_kind true e quats k (Ok (value.Quat q)) h = (k, by-even true e ∙ ap some (sym (ap (λ (a : Sampled). a.value) h)))
+    by_kind true e quats k (Ok (value.Scalar n)) h = let z = ap (λ (a : Sampled). length a.value) h in absurd (omega (arith, z, width_is e quats k))
+    by_kind true e quats k (Err n) h = let z = ap (λ (a : Sampled). length a.value) h in absurd (omega (arith, z, width_is e quats k))
+    by_kind true e scalars k (Ok (value.Vec3 v)) h = let z = ap (λ (a : Sampled). length a.value) h in absurd (omega (arith, z))
+    by_kind true e scalars k (Ok (value.Quat q)) h = let z = ap (λ (a : Sampled). length a.value) h in absurd (omega (arith, z))
+    by_kind true e scalars k (Ok (value.Scalar n)) h = (k, by-even true e)
+    by_kind true e scalars k (Err n) h = let z = ap (λ (a : Sampled). a.weights) h in absurd (omega (arith, z, stride-some tr e))
 
   module _ (g : ℕ) (lent : List Float) (z : g ≡ 0) (number : is_nan time ≡ false) (line : (even tr && not (in_line tr.keys)) ≡ false)
       (space : even tr ≡ true → short_for tr time (length lent) ≡ false) where
@@ -103,7 +105,16 @@ module _ (tr : Track) (time : Float) where
     answer-is true e = ap (λ (n : ℕ). sampled_or n tr time lent) (sample-tests tr time (length lent) g false true true false z number e (in-line e) (space e))
     answer-is false e = ap (λ (n : ℕ). sampled_or n tr time lent) (sample-tests tr time (length lent) g false false _ _ z number e refl refl)
 
-    pub told : (s : SampledValue) (left : List Float) → answer_of s left ≡ sampled g tr time lent → Told s
+    pub none-given : (m : ℕ) → sample_number g tr time (length lent) ≡ suc m → sample tr time ≡ none
+    none-given m e = go (even tr) refl
+      where
+        go : (b : Bool) → even tr ≡ b → sample tr time ≡ none
+        go false p = by-even false p
+        go true p =
+            let n = sample-tests tr time (length lent) g false true true false z number p (in-line p) (space p) in
+            absurd (omega (arith, e, n))
+
+    pub told : (s : Result SampledValue Refusal) (left : List Float) → answer_of s left ≡ sampled g tr time lent → Told s
     told s left h = by_kind lent left (even tr) refl tr.kind refl s (h ∙ answer-is (even tr) refl)
 
 -- ---- in the tables
@@ -134,12 +145,19 @@ module _ (floats : List Float) (row : ChannelRow) (time : Float) where
   abbrev tr : Track
   tr = track_in floats (track_for row)
 
-  pub answered : (t : animation.Track) (lent left : List Float) (s : SampledValue) → t ≡ track_for row
+  pub answered : (t : animation.Track) (lent left : List Float) (s : Result SampledValue Refusal) → t ≡ track_for row
       → table_number floats (track_for row) ≡ 0 → is_nan time ≡ false → (even tr && not (in_line tr.keys)) ≡ false → length lent ≡ 64
       → answer_of s left ≡ sampled (table_number floats t) (track_in floats t) time lent → Told tr time s
   answered t lent left s e z number line n h =
       told tr time _ lent z number line (λ p. ap (short_for tr time) n ∙ few-weights floats (track_for row) z time p) s left
       (h ∙ ap (λ (x : animation.Track). sampled (table_number floats x) (track_in floats x) time lent) e)
+
+  -- a track that is refused all the same has no value
+  pub unanswered : (lent : List Float) (m : ℕ) → table_number floats (track_for row) ≡ 0 → is_nan time ≡ false
+      → (even tr && not (in_line tr.keys)) ≡ false → length lent ≡ 64
+      → sample_number (table_number floats (track_for row)) tr time (length lent) ≡ suc m → sample tr time ≡ none
+  unanswered lent m z number line n e =
+      none-given tr time _ lent z number line (λ p. ap (short_for tr time) n ∙ few-weights floats (track_for row) z time p) m e
 
   pub handed : (g : Gift) (q : Property) (k : Kind) (v : Option Vector) → Gives g q k v → q ≡ property_for row.property → tr.kind ≡ k → sample tr time ≡ v
       → Gives g (channel_in floats row).property (channel_in floats row).kind (sample (channel_in floats row) time)

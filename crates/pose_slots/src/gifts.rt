@@ -82,10 +82,10 @@ pub fn gift_at(floats: &[f32], row: ChannelRow, time: f32) -> Gift
 {
     let mut weights = [0.0f32; WEIGHT_LIMIT];
     match animation::sample(floats, tables::track_of(row), time, &mut weights) {
-        SampledValue::Vec3(v) => of_vec3(tables::property_of(row), v),
-        SampledValue::Quat(q) => of_quat(tables::property_of(row), q),
-        SampledValue::Scalar(_) => of_scalars(tables::property_of(row)),
-        SampledValue::Refused(_) => Gift::Nothing,
+        Ok(SampledValue::Vec3(v)) => of_vec3(tables::property_of(row), v),
+        Ok(SampledValue::Quat(q)) => of_quat(tables::property_of(row), q),
+        Ok(SampledValue::Scalar(_)) => of_scalars(tables::property_of(row)),
+        Err(_) => Gift::Nothing,
     }
 }
 

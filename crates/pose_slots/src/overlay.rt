@@ -32,7 +32,7 @@ fn parts_of(base: Transform) -> Trs
 {
     match base {
         Transform::Trs(p) => p,
-        Transform::Matrix(_) => scene::from_matrix(scene::to_matrix(base)),
+        Transform::Matrix(m) => scene::from_matrix(m),
     }
 }
 

@@ -108,10 +108,8 @@ fn put_words(s: &mut [u32], at: usize, v: [u32; 4])
     requires { at + 4 ≤ length s.old }
     ensures { s.new ≡ paste s.old at v 4 }
 {
-    let mut k = 0usize;
-    while k < 4 {
+    for k in 0..4 {
         s[at + k] = v[k];
-        k += 1;
     }
 }
 
@@ -119,10 +117,8 @@ fn put_floats(s: &mut [f32], at: usize, v: [f32; 10])
     requires { at + 10 ≤ length s.old }
     ensures { s.new ≡ paste s.old at v 10 }
 {
-    let mut k = 0usize;
-    while k < 10 {
+    for k in 0..10 {
         s[at + k] = v[k];
-        k += 1;
     }
 }
 

@@ -5,8 +5,8 @@ use Prim.Native.Nat.{ℕ, suc, ◌+◌, ◌-◌, ◌*◌, ◌≤◌, ◌<◌}
 use native.Mathlib.Numerals.{add-one}
 use native.Mathlib.Omega.{arith}
 use lib.Ieee.{Float, binary32, to_bits}
-use lib.ListN.{length, get_or, drop, replicate, length-append, length-drop, drop_of_length-le}
-use lib.Seq.{drop-cons}
+use lib.ListN.{length, get_or, take, drop, replicate, length-append, length-drop, drop_of_length-le}
+use lib.Seq.{take_all}
 use Rattle.grammar.specs.Digits.{numbers, floats, digits_of}
 use Rattle.spelling.specs.Pushed.{Out, out_at, pushes}
 use Rattle.spelling.proofs.DigitLaws.{last-length, digits-few}
@@ -15,20 +15,15 @@ use Rattle.printing.specs.Lines.{bits_text, vertex_text, vertices_text, number_t
 
 -- ---- a line
 
--- what is still to put of a list makes up what was to put
-abbrev pub Still : List ℕ → Out → Out → ℕ → Type 0
-Still items lent left i = pushes (drop i items) left ≡ pushes (drop 1 items) lent
+-- what is behind the first n
+rest_all : {A : Type 0} (n : ℕ) (l : List A) {m : ℕ} → m ≡ length l - n → take m (drop n l) ≡ drop n l
+rest_all n l {m} e = take_all m (drop n l) (omega (arith, e, length-drop n l))
 
-pub still-more : (items : List ℕ) (i : ℕ) (lent mid : Out) {left : Out} → Still items lent mid i → i < length items
-    → left ≡ pushes (get_or items i 0 ∷ []) mid → Still items lent left (i + 1)
-unfolding pushes
-still-more items i lent mid e h p = rw (add-one i, p) (rw (drop-cons items i 0 h) at e)
-
-pub still-done : (items : List ℕ) (i : ℕ) (lent mid : Out) {left : Out} → Still items lent mid i → length items ≤ i
-    → left ≡ pushes (10 ∷ []) mid → left ≡ pushes (drop 1 items ++ 10 ∷ []) lent
-unfolding pushes
-still-done items i lent mid e h p =
-    put-append (drop 1 items) (10 ∷ []) lent (rw (drop_of_length-le items h) at e) p
+pub line-put : (items : List ℕ) (lent : Out) {m : ℕ} {mid left : Out} → m ≡ length items - 1
+    → mid ≡ pushes (take m (drop 1 items)) lent → left ≡ pushes (10 ∷ []) mid
+    → left ≡ pushes (drop 1 items ++ 10 ∷ []) lent
+line-put items lent e p q =
+    put-append (drop 1 items) (10 ∷ []) lent (p ∙ ap (λ (l : List ℕ). pushes l lent) (rest_all 1 items e)) q
 
 pub put-length : (bs : List ℕ) (lent : Out) {left : Out} → left ≡ pushes bs lent
     → length left.bytes ≡ length lent.bytes
@@ -73,35 +68,17 @@ vertex-filled x y z {c = c} {p = p} {q = q} {r = r} {three = three} i j k f g h 
 
 -- ---- vertices
 
--- what is still to put makes up what was to put
-abbrev pub Going : List Float → Out → Out → ℕ → Type 0
-Going ps lent left i = (i ≤ length ps) × (pushes (vertices_text (drop i ps)) left ≡ pushes (vertices_text ps) lent)
-
-pub vertex-next : (d : Float) (ps : List Float) (i : ℕ) (lent mid : Out) {left : Out} → Going ps lent mid i
-    → 2 < length ps - i
-    → left ≡ pushes (vertex_text (get_or ps i d) (get_or ps (i + 1) d) (get_or ps (i + 2) d)) mid
-    → Going ps lent left (i + 3)
+pub vertex-next : (d : Float) (ps : List Float) (mid : Out) {m : ℕ} {left all : Out} → 3 ≤ length ps
+    → m ≡ length ps - 3
+    → left ≡ pushes (vertex_text (get_or ps 0 d) (get_or ps 1 d) (get_or ps 2 d)) mid
+    → pushes (vertices_text ps) mid ≡ all → pushes (vertices_text (take m (drop 3 ps))) left ≡ all
 unfolding vertices_text
-vertex-next d ps i lent mid e h p =
-    let x = get_or ps i d in
-    let y = get_or ps (i + 1) d in
-    let z = get_or ps (i + 2) d in
-    let rest = drop (i + 3) ps in
-    let two : suc (i + 1) ≡ i + 2 = omega arith in
-    let three : suc (i + 2) ≡ i + 3 = omega arith in
-    let cons : drop i ps ≡ x ∷ y ∷ z ∷ rest
-    = drop-cons ps i d (omega arith)
-    ∙ ap (λ (l : List Float). x ∷ l)
-    (ap (λ (n : ℕ). drop n ps) (sym (add-one i)) ∙ drop-cons ps (i + 1) d (omega arith)
-    ∙ ap (λ (l : List Float). y ∷ l)
-    (ap (λ (n : ℕ). drop n ps) two ∙ drop-cons ps (i + 2) d (omega arith)
-    ∙ ap (λ (n : ℕ). z ∷ drop n ps) three)) in (
-      omega arith,
-      ap (pushes (vertices_text rest)) p
-          ∙ sym (pushes-append (vertex_text x y z) (vertices_text rest) mid)
-          ∙ sym (ap (λ (l : List Float). pushes (vertices_text l) mid) cons)
-          ∙ e.1,
-    )
+vertex-next d (x ∷ y ∷ z ∷ ps) mid {m} {left} h n p e =
+    ap (λ (l : List Float). pushes (vertices_text l) left) (rest_all 3 (x ∷ y ∷ z ∷ ps) n)
+    ∙ ap (pushes (vertices_text ps)) p ∙ sym (pushes-append (vertex_text x y z) (vertices_text ps) mid) ∙ e
+vertex-next d (x ∷ y ∷ []) mid h n p e = absurd (omega arith)
+vertex-next d (x ∷ []) mid h n p e = absurd (omega arith)
+vertex-next d [] mid h n p e = absurd (omega arith)
 
 short_none : (ps : List Float) → length ps ≤ 2 → vertices_text ps ≡ []
 unfolding vertices_text
@@ -110,11 +87,10 @@ short_none (x ∷ []) h = refl
 short_none (x ∷ y ∷ []) h = refl
 short_none (x ∷ y ∷ z ∷ ps) h = absurd (omega arith)
 
-pub vertices-done : (ps : List Float) (i : ℕ) (lent left : Out) → Going ps lent left i → length ps - i ≤ 2
-    → left ≡ pushes (vertices_text ps) lent
+pub vertices-done : (ps : List Float) (lent left : Out) → length ps ≤ 2 → pushes (vertices_text ps) left ≡ lent
+    → left ≡ lent
 unfolding pushes
-vertices-done ps i lent left e h =
-    sym (ap (λ (bs : List ℕ). pushes bs left) (short_none (drop i ps) (omega (arith, length-drop i ps)))) ∙ e.1
+vertices-done ps lent left h e = sym (ap (λ (bs : List ℕ). pushes bs left) (short_none ps h)) ∙ e
 
 -- ---- how many bytes
 

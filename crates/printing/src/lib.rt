@@ -9,13 +9,11 @@ ghost use Rattle.printing.specs.Lines.{vertex_text, vertices_text, number_text};
 fn put_line(out: &mut [u8], at: usize, items: &[u8]) -> usize
     ensures { Puts (drop 1 items.now ++ 10 ∷ []) out at result }
 {
-    let mut k = at;
-    let mut i = 1;
-    while i < items.len() {
-        k = spelling::put(out, k, items[i]);
-        i += 1;
-    }
-    spelling::put(out, k, 10)
+    let [_, line @ ..] = items else {
+        return spelling::put(out, at, b'\n');
+    };
+    let k = spelling::put_bytes(out, at, line);
+    spelling::put(out, k, b'\n')
 }
 
 // Puts a vertex on a line of its own.
@@ -34,10 +32,10 @@ pub fn put_vertices(out: &mut [u8], positions: &[f32]) -> usize
     ensures { Puts (vertices_text positions.now) out 0 result }
 {
     let mut k = 0;
-    let mut i = 0;
-    while 2 < positions.len() - i {
-        k = put_vertex(out, k, positions[i], positions[i + 1], positions[i + 2]);
-        i += 3;
+    let mut left = positions;
+    while let [x, y, z, behind @ ..] = left {
+        k = put_vertex(out, k, *x, *y, *z);
+        left = behind;
     }
     k
 }

@@ -1,32 +1,84 @@
-// The refusal numbers and the limits of the scope's table, as constants. crates/model/specs/Refusals.antt and
+// The refusals of the scope's table, their numbers, and its limits as constants. crates/model/specs/Refusals.antt and
 // Limits.antt have the same for the contracts.
 #![tactic(auto)]
 
-// Short stock: an offset or count leaves its table.
+ghost use Rattle.std.specs.Prelude.{◌≡◌};
+ghost use Rattle.refusals.specs.Drawn.{number_of, number_drawn};
+
+// Why a call is turned down. The lowest one that applies is answered.
+#[derive(Clone, Copy, PartialEq, Eq, PartialOrd, Ord)]
+pub enum Refusal {
+    // Short stock: an offset or count leaves its table.
+    OutOfTable = 1,
+    // Over size: a limit is passed.
+    OverLimit,
+    // No time: the time is NaN.
+    NoTime,
+    // Uneven track.
+    UnevenTrack,
+    // Keys out of line.
+    KeysOutOfLine,
+    // Short bench: walk room, pose slots, world slots, or the room that bytes are decoded into.
+    ShortScratch,
+    // No such piece.
+    NoSuchNode,
+    // Unplaced.
+    UnplacedNode,
+    // No palette.
+    NoPalette,
+    // Short sheet.
+    ShortOutput,
+    // No common root.
+    NoCommonRoot,
+    // No such frame.
+    NoSuchFrame,
+    // Bad form: a text has no reading.
+    BadForm,
+}
+
+// The refusal's number in the table.
+impl From<Refusal> for u32 {
+    ghost from_gives = { λ r n. n ≡ number_of r };
+
+    fn from(r: Refusal) -> u32 {
+        r as u32
+    }
+}
+
+// The number of what a call draws: 0 where it is accepted.
+pub fn number<T: Drop>(answer: Result<T, Refusal>) -> u32
+    ensures { result ≡ number_drawn answer }
+{
+    match answer {
+        Ok(_) => 0,
+        Err(r) => u32::from(r),
+    }
+}
+
 pub const OUT_OF_TABLE: u32 = 1;
-// Over size: a limit is passed.
+
 pub const OVER_LIMIT: u32 = 2;
-// No time: the time is NaN.
+
 pub const NO_TIME: u32 = 3;
-// Uneven track.
+
 pub const UNEVEN_TRACK: u32 = 4;
-// Keys out of line.
+
 pub const KEYS_OUT_OF_LINE: u32 = 5;
-// Short bench: walk room, pose slots, world slots, or the room that bytes are decoded into.
+
 pub const SHORT_SCRATCH: u32 = 6;
-// No such piece.
+
 pub const NO_SUCH_NODE: u32 = 7;
-// Unplaced.
+
 pub const UNPLACED_NODE: u32 = 8;
-// No palette.
+
 pub const NO_PALETTE: u32 = 9;
-// Short sheet.
+
 pub const SHORT_OUTPUT: u32 = 10;
-// No common root.
+
 pub const NO_COMMON_ROOT: u32 = 11;
-// No such frame.
+
 pub const NO_SUCH_FRAME: u32 = 12;
-// Bad form: a text has no reading.
+
 pub const BAD_FORM: u32 = 13;
 
 pub const NODE_LIMIT: usize = 1024;

@@ -5,50 +5,16 @@
 // otherwise.
 #![tactic(auto)]
 
-ghost use Rattle.std.specs.Prelude.{◌≡◌};
-ghost use Rattle.replay.specs.Lines.{is_line, root_is, narrowed_is, weight_is_near};
+mod line;
 
-use lists::{TURN_GAP, Tally};
+use line::{Line, Question};
+use lists::Tally;
 use std::io;
-use std::io::Read;
 
-// How many lines the list has.
-const LINES: u32 = 5000;
+// How many lines the list has, and the bytes of one.
+const LINES: usize = 5000;
 
-fn root_is(line: &[u8; 28], answer: u32) -> bool
-    ensures { result ≡ root_is line.now answer }
-{
-    float::to_bits(square_root::sqrt(float::from_bits(lists::word(line, 10)))) == answer
-}
-
-fn narrowed_is(line: &[u8; 28], answer: u32) -> bool
-    ensures { result ≡ narrowed_is line.now answer }
-{
-    float::to_bits(float::narrow(float::from_bits_f64(lists::hexadecimal(line, 2, 16)))) == answer
-}
-
-fn weight_is_near(line: &[u8; 28], answer: u32) -> bool
-    ensures { result ≡ weight_is_near line.now answer }
-{
-    let v = float::from_bits(lists::word(line, 2));
-    let c = float::from_bits(lists::word(line, 10));
-    comparing::is_near(turn::turn_weight(v, c), float::from_bits(answer), TURN_GAP)
-}
-
-// Whether digits, blanks and the line's end stand where they should.
-fn is_line(line: &[u8; 28]) -> bool
-    ensures { result ≡ is_line line.now }
-{
-    let blanks = (line[1] == b' ') & (line[18] == b' ') & (line[27] == b'\n');
-    blanks & lists::are_digits(line, 2, 16) & lists::are_digits(line, 19, 8)
-}
-
-fn letter_of(line: &[u8; 28]) -> u8 {
-    if is_line(line) {
-        return line[0];
-    }
-    0
-}
+const LINE_LENGTH: usize = 28;
 
 // What was seen so far, by kind of line.
 #[derive(Clone, Copy)]
@@ -70,59 +36,44 @@ impl Report {
         }
     }
 
-    fn with(mut self, line: &[u8; 28]) -> Self {
-        let answer = lists::word(line, 19);
-        let letter = letter_of(line);
-        if letter == b's' {
-            let tally = self.roots;
-            self.roots = tally.with(root_is(line, answer));
-        } else if letter == b'n' {
-            let tally = self.narrowed;
-            self.narrowed = tally.with(narrowed_is(line, answer));
-        } else if letter == b'w' {
-            let tally = self.weights;
-            self.weights = tally.with(weight_is_near(line, answer));
-        } else {
-            let tally = self.unknown;
-            self.unknown = tally.with(false);
+    fn add(&mut self, text: &[u8; LINE_LENGTH]) {
+        let Some(line) = Line::parse(text) else {
+            self.unknown = self.unknown.with(false);
+            return;
+        };
+        let same = line.is_right();
+        match line.question {
+            Question::Root(_) => self.roots = self.roots.with(same),
+            Question::Narrowing(_) => self.narrowed = self.narrowed.with(same),
+            Question::Weight(_, _) => self.weights = self.weights.with(same),
         }
-        self
     }
 
-    // Answers whether every kind was seen, no answer differs and no line is unknown.
-    fn print(self, out: &impl Print) -> io::Result<bool> {
-        let roots = self.roots;
-        roots.print(out, b"square roots")?;
-        let narrowed = self.narrowed;
-        narrowed.print(out, b"narrowings")?;
-        let weights = self.weights;
-        weights.print(out, b"turn weights")?;
-        let unknown = self.unknown;
-        unknown.print(out, b"unknown lines")?;
-        Ok(roots.all_same() & narrowed.all_same() & weights.all_same() & (unknown.seen == 0))
+    fn print(&self, out: &impl Print) -> io::Result<()> {
+        println!(out; "square roots: {}", self.roots)?;
+        println!(out; "narrowings: {}", self.narrowed)?;
+        println!(out; "turn weights: {}", self.weights)?;
+        println!(out; "unknown lines: {}", self.unknown)
     }
-}
 
-// Reads a line, and answers how many of its bytes there were.
-fn read_line<R: Read>(input: &mut R, line: &mut [u8; 28]) -> io::Result<usize> {
-    lists::read_full(input, line)
+    // Whether every kind was seen, no answer differs and no line is unknown.
+    fn is_good(&self) -> bool {
+        self.roots.all_same()
+            && self.narrowed.all_same()
+            && self.weights.all_same()
+            && self.unknown.seen == 0
+    }
 }
 
 fn main(rt: HostRuntime) -> io::Result<()> {
-    let mut input = rt.stdin();
     let out = rt.stdout();
+    let length = LINES * LINE_LENGTH;
+    let text = lists::read_bytes(rt.alloc(), rt.stdin(), length as u64 + 1)?;
     let mut report = Report::new();
-    let mut line = [0u8; 28];
-    let mut count = read_line(&mut input, &mut line)?;
-    let mut left = LINES;
-    while 0 < left {
-        if count != 28 {
-            break;
-        }
-        report = report.with(&line);
-        count = read_line(&mut input, &mut line)?;
-        left -= 1;
+    let (lines, _) = text.as_slice().as_chunks::<LINE_LENGTH>();
+    for line in lines {
+        report.add(line);
     }
-    let good = report.print(&out)?;
-    lists::print_verdict(&out, good & (left == 0) & (count == 0))
+    report.print(&out)?;
+    lists::print_verdict(&out, report.is_good() && text.len() == length)
 }

@@ -1,7 +1,6 @@
 -- What a call answered and left, beside the fields from a place on. Definitions only.
 use Rattle.std.specs.Prelude.{true, List, ℕ, Float}
-use Rattle.lists.specs.declared.Checked.{Checked}
-use Rattle.lists.specs.Checked.{number_next, words_next, floats_next}
+use Rattle.lists.specs.Checked.{Checked, number_next, words_next, floats_next}
 
 -- one number, and two
 abbrev pub number_told : List ℕ → ℕ → ℕ → Checked

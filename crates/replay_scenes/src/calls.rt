@@ -1,76 +1,88 @@
-// The calls on a scene, by their numbers in the list. Each is made with what stands at a place, and all that it
-// answers and leaves is compared with the fields behind.
+// The calls on a scene. Each is made with what stands next in the fields, and all that it answers and leaves is
+// compared with what stands behind.
 use crate::{nodes, skins, vertices};
-use lists::Checked;
-use tables::Header;
+use lists::Fields;
+use scene_lists::Scene;
+use std::alloc::{AllocError, Global};
+use std::fmt;
 
-fn replay_bake<'a>(
-    fields: &[u32],
-    at: usize,
-    words: &[u32],
-    floats: &[f32],
-    node_weights: &'a [f32],
-    mesh_weights: &'a [f32],
-    h: Header,
-) -> Checked {
-    let outcome = scene_lists::replay_bake(
-        fields,
-        at,
-        words,
-        floats,
-        node_weights,
-        mesh_weights,
-        h,
-    );
-    Checked {
-        same: outcome.told & (outcome.floats.differ == 0),
-        at: outcome.end,
+#[derive(Clone, Copy, PartialEq, Eq, Debug)]
+pub enum Call {
+    Parents,
+    Pose,
+    Places,
+    Palette,
+    Root,
+    Weights,
+    Bake,
+    Transformed,
+    Skinned,
+    Morphed,
+}
+
+// The calls by their numbers in the list.
+pub static CALLS: [Call; 10] = [
+    Call::Parents,
+    Call::Pose,
+    Call::Places,
+    Call::Palette,
+    Call::Root,
+    Call::Weights,
+    Call::Bake,
+    Call::Transformed,
+    Call::Skinned,
+    Call::Morphed,
+];
+
+pub fn call_of(number: u32) -> Option<Call> {
+    CALLS.get(number as usize).copied()
+}
+
+impl fmt::Display for Call {
+    fn fmt<W: fmt::Write>(&self, f: &mut fmt::Formatter<W>) -> fmt::Result {
+        let name = match self {
+            Call::Parents => "parents",
+            Call::Pose => "sample_pose",
+            Call::Places => "posed_node_transforms",
+            Call::Palette => "joint_matrices_with",
+            Call::Root => "skin_root",
+            Call::Weights => "effective_morph_weights",
+            Call::Bake => "world_mesh_at",
+            Call::Transformed => "transformed",
+            Call::Skinned => "skinned",
+            Call::Morphed => "morphed",
+        };
+        write!(f, "{name}")
     }
 }
 
-// The calls on one node, skin or mesh.
-fn replay_of_one<'a>(
-    call: u32,
-    fields: &[u32],
-    at: usize,
-    words: &[u32],
-    floats: &[f32],
-    node_weights: &'a [f32],
-    mesh_weights: &'a [f32],
-    h: Header,
-) -> Checked {
-    match call {
-        3 => skins::replay_palette(fields, at, words, floats, node_weights, mesh_weights, h),
-        4 => skins::replay_root(fields, at, words, floats, node_weights, mesh_weights, h),
-        5 => skins::replay_weights(fields, at, words, floats, node_weights, mesh_weights, h),
-        6 => replay_bake(fields, at, words, floats, node_weights, mesh_weights, h),
-        _ => vertices::replay_vertices(call, fields, at, words, floats, h),
-    }
+fn replay_bake(alloc: Global, scene: &Scene, fields: &mut Fields) -> Result<bool, AllocError> {
+    let outcome = scene.replay_bake(alloc, fields)?;
+    Ok(outcome.told && outcome.floats.differ == 0)
 }
 
-pub fn replay<'a>(
-    call: u32,
-    fields: &[u32],
-    at: usize,
-    words: &[u32],
-    floats: &[f32],
-    node_weights: &'a [f32],
-    mesh_weights: &'a [f32],
-    h: Header,
-) -> Checked {
+// Answers whether the call is as the fields say. One that is not known is past all fields: nobody knows how much stands
+// behind it.
+pub fn replay(
+    alloc: Global,
+    call: Option<Call>,
+    scene: &Scene,
+    fields: &mut Fields,
+) -> Result<bool, AllocError> {
+    let Some(call) = call else {
+        fields.go_past();
+        return Ok(false);
+    };
     match call {
-        0 => nodes::replay_parents(fields, at, words, floats, node_weights, mesh_weights, h),
-        1 => nodes::replay_pose(fields, at, words, floats, node_weights, mesh_weights, h),
-        2 => nodes::replay_places(fields, at, words, floats, node_weights, mesh_weights, h),
-        _ => replay_of_one(
-            call,
-            fields,
-            at,
-            words,
-            floats,
-            node_weights,
-            mesh_weights,
-            h,
-        ),
+        Call::Parents => nodes::replay_parents(alloc, scene, fields),
+        Call::Pose => nodes::replay_pose(alloc, scene, fields),
+        Call::Places => nodes::replay_places(alloc, scene, fields),
+        Call::Palette => skins::replay_palette(alloc, scene, fields),
+        Call::Root => Ok(skins::replay_root(scene, fields)),
+        Call::Weights => Ok(skins::replay_weights(scene, fields)),
+        Call::Bake => replay_bake(alloc, scene, fields),
+        Call::Transformed => vertices::replay_transformed(alloc, fields),
+        Call::Skinned => vertices::replay_skinned(alloc, fields),
+        Call::Morphed => vertices::replay_morphed(alloc, scene, fields),
     }
 }

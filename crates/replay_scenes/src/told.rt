@@ -1,75 +1,90 @@
-// What a call answered and left, beside the fields from a place on.
+// Whether what a call answered and left is what stands next in the fields. All of it is read, so & joins what is found.
 ghost use Rattle.std.specs.Prelude.{◌≡◌};
+ghost use Rattle.lists.specs.Moves.{MovesTo};
 ghost use Rattle.replay_scenes.specs.Told.{number_told, numbers_told, parents_told, pose_told, places_told};
 ghost use Rattle.replay_scenes.specs.Told.{palette_told, weights_told, vertices_told};
 
-use lists::Checked;
+use lists::Fields;
 
-fn check_number(fields: &[u32], at: usize, number: u32) -> Checked
-    ensures { result ≡ number_told fields.now at number }
+fn has_number(fields: &mut Fields, number: u32) -> bool
+    ensures same { result ≡ (number_told fields.old.all.now fields.old.at number).same }
+    ensures moves { MovesTo fields.old fields.new (number_told fields.old.all.now fields.old.at number).at }
 {
-    Checked::new(at).number(fields, number as usize)
+    fields.has_number(number as usize)
 }
 
-pub fn check_numbers(fields: &[u32], at: usize, number: u32, other: usize) -> Checked
-    ensures { result ≡ numbers_told fields.now at number other }
+pub fn has_numbers(fields: &mut Fields, number: u32, other: usize) -> bool
+    ensures same { result ≡ (numbers_told fields.old.all.now fields.old.at number other).same }
+    ensures moves { MovesTo fields.old fields.new
+        (numbers_told fields.old.all.now fields.old.at number other).at }
 {
-    check_number(fields, at, number).number(fields, other)
+    has_number(fields, number) & fields.has_number(other)
 }
 
-pub fn check_parents(fields: &[u32], at: usize, number: u32, out: &[u32]) -> Checked
-    ensures { result ≡ parents_told fields.now at number out.now }
+pub fn has_parents(fields: &mut Fields, number: u32, out: &[u32]) -> bool
+    ensures same { result ≡ (parents_told fields.old.all.now fields.old.at number out.now).same }
+    ensures moves { MovesTo fields.old fields.new
+        (parents_told fields.old.all.now fields.old.at number out.now).at }
 {
-    check_number(fields, at, number).words(fields, out, 8)
+    has_number(fields, number) & fields.has_words(out, 8)
 }
 
-pub fn check_pose(fields: &[u32], at: usize, number: u32, marks: &[u32], slots: &[f32]) -> Checked
-    ensures { result ≡ pose_told fields.now at number marks.now slots.now }
+pub fn has_pose(fields: &mut Fields, number: u32, marks: &[u32], slots: &[f32]) -> bool
+    ensures same { result ≡ (pose_told fields.old.all.now fields.old.at number marks.now slots.now).same }
+    ensures moves { MovesTo fields.old fields.new
+        (pose_told fields.old.all.now fields.old.at number marks.now slots.now).at }
 {
-    let marked = check_number(fields, at, number).words(fields, marks, 32);
-    marked.floats(fields, slots, 80)
+    has_number(fields, number) & fields.has_words(marks, 32) & fields.has_floats(slots, 80)
 }
 
-pub fn check_places(
-    fields: &[u32],
-    at: usize,
+pub fn has_places(
+    fields: &mut Fields,
     number: u32,
     taken: usize,
     walk: &[u32],
     places: &[u32],
     worlds: &[f32],
-) -> Checked
-    ensures { result ≡ places_told fields.now at number taken
-        walk.now places.now worlds.now }
+) -> bool
+    ensures same { result ≡ (places_told fields.old.all.now fields.old.at number taken
+        walk.now places.now worlds.now).same }
+    ensures moves { MovesTo fields.old fields.new (places_told fields.old.all.now fields.old.at number taken
+        walk.now places.now worlds.now).at }
 {
-    let walked = check_numbers(fields, at, number, taken).words(fields, walk, 64);
-    let placed = walked.words(fields, places, 8);
-    placed.floats(fields, worlds, 128)
+    has_numbers(fields, number, taken)
+        & fields.has_words(walk, 64)
+        & fields.has_words(places, 8)
+        & fields.has_floats(worlds, 128)
 }
 
-pub fn check_palette(fields: &[u32], at: usize, number: u32, length: usize, out: &[f32]) -> Checked
-    ensures { result ≡ palette_told fields.now at number length out.now }
+pub fn has_palette(fields: &mut Fields, number: u32, length: usize, out: &[f32]) -> bool
+    ensures same { result ≡ (palette_told fields.old.all.now fields.old.at number length out.now).same }
+    ensures moves { MovesTo fields.old fields.new
+        (palette_told fields.old.all.now fields.old.at number length out.now).at }
 {
-    check_numbers(fields, at, number, length).floats(fields, out, 64)
+    has_numbers(fields, number, length) & fields.has_floats(out, 64)
 }
 
-pub fn check_weights(fields: &[u32], at: usize, number: u32, weights: &[f32]) -> Checked
-    ensures { result ≡ weights_told fields.now at number weights.now }
+pub fn has_weights(fields: &mut Fields, number: u32, weights: &[f32]) -> bool
+    ensures same { result ≡ (weights_told fields.old.all.now fields.old.at number weights.now).same }
+    ensures moves { MovesTo fields.old fields.new
+        (weights_told fields.old.all.now fields.old.at number weights.now).at }
 {
-    check_number(fields, at, number).floats(fields, weights, 64)
+    has_number(fields, number) & fields.has_floats(weights, 64)
 }
 
-pub fn check_vertices(
-    fields: &[u32],
-    at: usize,
+pub fn has_vertices(
+    fields: &mut Fields,
     positions: &[f32],
     normals: &[f32],
     tangents: &[f32],
-) -> Checked
-    ensures { result ≡ vertices_told fields.now at
-        positions.now normals.now tangents.now }
+) -> bool
+    ensures same { result ≡ (vertices_told fields.old.all.now fields.old.at positions.now
+        normals.now tangents.now).same }
+    ensures moves { MovesTo fields.old fields.new
+        (vertices_told fields.old.all.now fields.old.at positions.now
+        normals.now tangents.now).at }
 {
-    let moved = Checked::new(at).floats(fields, positions, 64);
-    let turned = moved.floats(fields, normals, 64);
-    turned.floats(fields, tangents, 64)
+    fields.has_floats(positions, 64)
+        & fields.has_floats(normals, 64)
+        & fields.has_floats(tangents, 64)
 }

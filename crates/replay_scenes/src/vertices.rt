@@ -1,141 +1,88 @@
-// The calls on vertices in flat slices, of up to 64 floats each.
+// The calls on vertices in flat lists, of up to 64 floats each.
 use crate::told;
-use lists::{Checked, ahead, behind_list, field};
+use lists::Fields;
 use scene::Mat4;
-use tables::Header;
+use scene_lists::Scene;
+use std::alloc::{AllocError, Global};
 use tracks::Part;
 
-fn replay_transformed(
-    fields: &[u32],
-    at: usize,
-    positions: &mut [f32],
-    normals: &mut [f32],
-    tangents: &mut [f32],
-) -> Checked {
-    let mut m = [0.0f32; 16];
-    lists::read_floats(fields, at, &mut m);
-    transform::transformed(Mat4 { m }, positions, normals, tangents);
-    told::check_vertices(
-        fields,
-        behind_list(fields, at, 16),
-        positions,
-        normals,
-        tangents,
-    )
+// The vertices that a call moves.
+#[derive(Drop)]
+struct Vertices {
+    positions: Vec<f32>,
+    normals: Vec<f32>,
+    tangents: Vec<f32>,
 }
 
-fn replay_skinned(
-    fields: &[u32],
-    at: usize,
-    positions: &mut [f32],
-    normals: &mut [f32],
-    tangents: &mut [f32],
-) -> Checked {
-    let mut palette = [0.0f32; 96];
-    let mut weights = [0.0f32; 64];
-    let joints_at = behind_list(fields, at, 96);
-    let weights_at = behind_list(fields, joints_at, 64);
-    let p = lists::read_floats(fields, at, &mut palette);
-    let w = lists::read_floats(fields, weights_at, &mut weights);
-    skinning::skinned(
-        &palette[..p],
-        lists::list_at(fields, joints_at),
-        &weights[..w],
-        positions,
-        normals,
-        tangents,
-    );
-    told::check_vertices(
-        fields,
-        behind_list(fields, weights_at, 64),
-        positions,
-        normals,
-        tangents,
-    )
-}
+impl Vertices {
+    fn read(alloc: Global, fields: &mut Fields) -> Result<Self, AllocError> {
+        Ok(Vertices {
+            positions: fields.floats(alloc, 64)?,
+            normals: fields.floats(alloc, 64)?,
+            tangents: fields.floats(alloc, 64)?,
+        })
+    }
 
-fn replay_morphed(
-    fields: &[u32],
-    at: usize,
-    words: &[u32],
-    floats: &[f32],
-    h: Header,
-    positions: &mut [f32],
-    normals: &mut [f32],
-    tangents: &mut [f32],
-) -> Checked {
-    let first = field(fields, at) as usize;
-    let count = lists::field_behind(fields, at, 1) as usize;
-    let weights_at = ahead(fields, at, 2);
-    let mut weights = [0.0f32; 16];
-    let w = lists::read_floats(fields, weights_at, &mut weights);
-    mesh::morphed(
-        words,
-        floats,
-        h,
-        Part { at: first, count },
-        &weights[..w],
-        positions,
-        normals,
-        tangents,
-    );
-    told::check_vertices(
-        fields,
-        behind_list(fields, weights_at, 16),
-        positions,
-        normals,
-        tangents,
-    )
-}
-
-// Past all fields where the call is not known: nobody knows how much stands behind it.
-fn replay_vertices_in(
-    call: u32,
-    fields: &[u32],
-    at: usize,
-    words: &[u32],
-    floats: &[f32],
-    h: Header,
-    positions: &mut [f32],
-    normals: &mut [f32],
-    tangents: &mut [f32],
-) -> Checked {
-    match call {
-        7 => replay_transformed(fields, at, positions, normals, tangents),
-        8 => replay_skinned(fields, at, positions, normals, tangents),
-        9 => replay_morphed(fields, at, words, floats, h, positions, normals, tangents),
-        _ => Checked {
-            same: false,
-            at: fields.len() + 1,
-        },
+    // Whether they are the next three lists.
+    fn are_told(&self, fields: &mut Fields) -> bool {
+        told::has_vertices(fields, &self.positions, &self.normals, &self.tangents)
     }
 }
 
-pub fn replay_vertices(
-    call: u32,
-    fields: &[u32],
-    at: usize,
-    words: &[u32],
-    floats: &[f32],
-    h: Header,
-) -> Checked {
-    let mut positions = [0.0f32; 64];
-    let mut normals = [0.0f32; 64];
-    let mut tangents = [0.0f32; 64];
-    let normals_at = behind_list(fields, at, 64);
-    let tangents_at = behind_list(fields, normals_at, 64);
-    let p = lists::read_floats(fields, at, &mut positions);
-    let n = lists::read_floats(fields, normals_at, &mut normals);
-    let t = lists::read_floats(fields, tangents_at, &mut tangents);
-    replay_vertices_in(
-        call,
-        fields,
-        behind_list(fields, tangents_at, 64),
-        words,
-        floats,
-        h,
-        &mut positions[..p],
-        &mut normals[..n],
-        &mut tangents[..t],
-    )
+// The next list as a matrix, with zeros where entries lack.
+fn matrix(fields: &mut Fields) -> Mat4 {
+    let mut m = [0.0f32; 16];
+    for (x, bits) in m.iter_mut().zip(fields.list(16)) {
+        *x = float::from_bits(*bits);
+    }
+    Mat4 { m }
+}
+
+pub fn replay_transformed(alloc: Global, fields: &mut Fields) -> Result<bool, AllocError> {
+    let mut v = Vertices::read(alloc, fields)?;
+    transform::transformed(
+        matrix(fields),
+        &mut v.positions,
+        &mut v.normals,
+        &mut v.tangents,
+    );
+    Ok(v.are_told(fields))
+}
+
+pub fn replay_skinned(alloc: Global, fields: &mut Fields) -> Result<bool, AllocError> {
+    let mut v = Vertices::read(alloc, fields)?;
+    let palette = fields.floats(alloc, 96)?;
+    let joints = fields.list(64);
+    let weights = fields.floats(alloc, 64)?;
+    skinning::skinned(
+        &palette,
+        joints,
+        &weights,
+        &mut v.positions,
+        &mut v.normals,
+        &mut v.tangents,
+    );
+    Ok(v.are_told(fields))
+}
+
+pub fn replay_morphed(
+    alloc: Global,
+    scene: &Scene,
+    fields: &mut Fields,
+) -> Result<bool, AllocError> {
+    let mut v = Vertices::read(alloc, fields)?;
+    let at = fields.number();
+    let count = fields.number();
+    let weights = fields.floats(alloc, 16)?;
+    mesh::morphed(
+        scene.words,
+        &scene.floats,
+        scene.header,
+        Part { at, count },
+        &weights,
+        &mut v.positions,
+        &mut v.normals,
+        &mut v.tangents,
+    );
+    Ok(v.are_told(fields))
 }

@@ -1,104 +1,69 @@
 // A bake of a sample, done, compared and printed.
-use bake::Answer;
-use comparing::Agreement;
-use lists::{Checked, text};
-use scene_lists::Outcome;
+use lists::{Decimal, Fields};
+use scene_lists::{Outcome, Scene};
+use std::alloc::Global;
 use std::io;
-use tables::Header;
 
-fn count(out: &impl Print, before: &[u8], n: u64) -> io::Result<()> {
-    text(out, before)?;
-    print!(out; "{n}")
-}
+// An output has room for so many vertices.
+const VERTICES: u32 = 32;
 
-fn print_answer(out: &impl Print, time: f32, a: Answer) -> io::Result<()> {
-    text(out, b"  time ")?;
-    lists::print_float(out, time)?;
-    count(out, b": number ", a.number as u64)?;
-    count(out, b", floats of positions ", a.positions as u64)?;
-    count(out, b", normals ", a.normals as u64)?;
-    count(out, b", tangents ", a.tangents as u64)?;
-    count(out, b", entries taken ", a.taken as u64)
-}
-
-fn print_agreement(out: &impl Print, a: Agreement) -> io::Result<()> {
-    count(out, b"; floats equal ", a.equal as u64)?;
-    count(out, b", within 2^-19 ", a.near as u64)?;
-    count(out, b", differing ", a.differ as u64)?;
-    text(out, b"\n")
-}
-
-fn print_three(out: &impl Print, what: &[u8], found: &[f32; 96], vertex: usize) -> io::Result<()> {
-    let at = vertex % 32 * 3;
-    text(out, what)?;
-    lists::print_float(out, found[at])?;
-    text(out, b", ")?;
-    lists::print_float(out, found[at + 1])?;
-    text(out, b", ")?;
-    lists::print_float(out, found[at + 2])
-}
-
-fn print_vertex(out: &impl Print, v: usize, outcome: Outcome) -> io::Result<()> {
-    let positions = outcome.positions;
-    let normals = outcome.normals;
-    count(out, b"    vertex ", v as u64)?;
-    print_three(out, b": position ", &positions, v)?;
-    if 0 < outcome.answer.normals {
-        print_three(out, b"; normal ", &normals, v)?;
-    }
-    text(out, b"\n")
-}
-
-fn print_vertices(out: &impl Print, vertices: usize, outcome: Outcome) -> io::Result<()> {
-    let mut v = 0;
-    while v < vertices {
-        print_vertex(out, v, outcome)?;
-        v += 1;
+fn print_outcome(out: &impl Print, outcome: &Outcome) -> io::Result<()> {
+    let a = outcome.answer;
+    print!(out; "  time {}: number {}", Decimal(outcome.time), a.number)?;
+    print!(out;
+        ", floats of positions {}, normals {}",
+        a.positions, a.normals
+    )?;
+    print!(out; ", tangents {}, entries taken {}", a.tangents, a.taken)?;
+    let floats = outcome.floats;
+    print!(out;
+        "; floats equal {}, within 2^-19 {}",
+        floats.equal, floats.near
+    )?;
+    println!(out; ", differing {}", floats.differ)?;
+    if !outcome.told {
+        println!(out; "    the answer differs")?;
     }
     Ok(())
 }
 
-// An output has room for 32 vertices.
-fn printed(vertices: u32) -> usize {
-    if 32 < vertices {
-        return 0;
-    }
-    vertices as usize
+// Coordinate k of a vertex, 0 past the output.
+fn coordinate(found: &[f32], vertex: u32, k: usize) -> Decimal {
+    let at = (vertex as usize).saturating_mul(3).saturating_add(k);
+    Decimal(found.get(at).copied().unwrap_or(0.0))
 }
 
-fn print_outcome(out: &impl Print, outcome: Outcome, vertices: u32) -> io::Result<()> {
-    print_answer(out, outcome.time, outcome.answer)?;
-    print_agreement(out, outcome.floats)?;
-    if !outcome.told {
-        text(out, b"    the answer differs\n")?;
-    }
-    print_vertices(out, printed(vertices), outcome)
+fn print_three(out: &impl Print, what: &str, found: &[f32], vertex: u32) -> io::Result<()> {
+    let x = coordinate(found, vertex, 0);
+    let y = coordinate(found, vertex, 1);
+    let z = coordinate(found, vertex, 2);
+    print!(out; "{what} {x}, {y}, {z}")
 }
 
-// The bake at a place, with how many of its vertices are printed behind it.
-pub fn replay<'a>(
+fn print_vertices(out: &impl Print, outcome: &Outcome, vertices: u32) -> io::Result<()> {
+    for v in 0..vertices {
+        print!(out; "    vertex {v}")?;
+        print_three(out, ": position", &outcome.positions, v)?;
+        if 0 < outcome.answer.normals {
+            print_three(out, "; normal", &outcome.normals, v)?;
+        }
+        println!(out)?;
+    }
+    Ok(())
+}
+
+// The next bake, with how many of its vertices are printed behind it. Answers whether it is as the fields say.
+pub fn replay(
     out: &impl Print,
-    fields: &[u32],
-    at: usize,
-    words: &[u32],
-    floats: &[f32],
-    node_weights: &'a [f32],
-    mesh_weights: &'a [f32],
-    h: Header,
-) -> io::Result<Checked> {
-    let outcome = scene_lists::replay_bake(
-        fields,
-        at,
-        words,
-        floats,
-        node_weights,
-        mesh_weights,
-        h,
-    );
-    let vertices = lists::field(fields, outcome.end);
-    print_outcome(out, outcome, vertices)?;
-    Ok(Checked {
-        same: outcome.told & (outcome.floats.differ == 0) & (vertices <= 32),
-        at: lists::ahead(fields, outcome.end, 1),
-    })
+    alloc: Global,
+    scene: &Scene,
+    fields: &mut Fields,
+) -> io::Result<bool> {
+    let outcome = scene.replay_bake(alloc, fields)?;
+    let vertices = fields.word();
+    print_outcome(out, &outcome)?;
+    if vertices <= VERTICES {
+        print_vertices(out, &outcome, vertices)?;
+    }
+    Ok(outcome.told && outcome.floats.differ == 0 && vertices <= VERTICES)
 }

@@ -1,5 +1,5 @@
 -- A matrix in a flat slice, where it fits and where it does not. Assumes nothing.
-use mathlib.Core.Path.{◌≡◌, refl, sym, ap, ◌∙◌}
+use mathlib.Core.Path.{◌≡◌, sym, ap, ◌∙◌}
 use mathlib.Core.Bool.{Bool, true, false}
 use mathlib.Core.List.{List}
 use Prim.Native.Nat.{ℕ, ◌+◌, ◌≤◌, ◌<◌}
@@ -10,7 +10,7 @@ use lib.Seq.{paste}
 use Rattle.float.specs.F32.{zero32}
 use Rattle.model.specs.Lists.{pick, part}
 use Rattle.model.specs.Matrix.{Matrix}
-use Rattle.scene.specs.Slots.{fits_at, matrix_in, Stored}
+use Rattle.scene.specs.Slots.{matrix_in, Stored}
 
 module _ (s : List Float) (at : ℕ) where
   pub lies_in : at + 16 ≤ length s → part s at 16 ≡ matrix_in s at

@@ -1,5 +1,5 @@
 -- The quaternion of a rotation, test by test. Assumes nothing.
-use mathlib.Core.Path.{◌≡◌, refl, sym, ap, ◌∙◌}
+use mathlib.Core.Path.{◌≡◌, refl, sym, ◌∙◌}
 use mathlib.Core.Bool.{Bool, true, false, ◌&&◌}
 use lib.Ieee.{Float, lt}
 use Rattle.float.specs.F32.{◌⊕◌, ◌⊖◌, zero32, one32}

@@ -1,24 +1,18 @@
 -- What the values of the code say, as the model's lists and transforms. Definitions only.
-use Rattle.std.specs.Prelude.{List, [], ◌∷◌, Float}
-use Rattle.std.proofs.Math.Option.{Option, none, some}
+use Rattle.std.specs.Prelude.{List, [], ◌∷◌, Float, Option, Some, None}
+use Rattle.std.proofs.Math.Option as math
 use Rattle.model.specs.Vector.{Vector}
 use Rattle.model.specs.Matrix.{Matrix}
 use Rattle.model.specs.Transform as model
 use Rattle.scene.specs.declared.Vec3.{Vec3}
 use Rattle.scene.specs.declared.Quat.{Quat}
 use Rattle.scene.specs.declared.Mat3.{Mat3}
+use Rattle.scene.specs.declared.Mat4.{Mat4}
 use Rattle.scene.specs.declared.Trs.{Trs}
 use Rattle.scene.specs.declared.matrices.Row.{Row}
 use Rattle.scene.specs.declared.matrices.Rows.{Rows}
-use Rattle.scene.specs.declared.Entries.{Entries}
 use Rattle.scene.specs.declared.Transform.{Transform}
 use Rattle.scene.specs.declared.Transform.TheVariants as transform
-use Rattle.scene.specs.declared.Direction.{Direction}
-use Rattle.scene.specs.declared.Direction.TheVariants as direction
-use Rattle.scene.specs.declared.Linear.{Linear}
-use Rattle.scene.specs.declared.Linear.TheVariants as linear
-use Rattle.scene.specs.declared.Inverse.{Inverse}
-use Rattle.scene.specs.declared.Inverse.TheVariants as inverse
 
 abbrev pub vec3 : Vec3 → Vector
 vec3 v = v.x ∷ v.y ∷ v.z ∷ []
@@ -29,15 +23,6 @@ quat q = q.x ∷ q.y ∷ q.z ∷ q.w ∷ []
 -- nine numbers, row by row
 abbrev pub mat3 : Mat3 → List Float
 mat3 l = l.m00 ∷ l.m01 ∷ l.m02 ∷ l.m10 ∷ l.m11 ∷ l.m12 ∷ l.m20 ∷ l.m21 ∷ l.m22 ∷ []
-
--- sixteen numbers, row by row
-abbrev pub mat4 : Entries → Matrix
-mat4 e =
-    e.m00 ∷ e.m01 ∷ e.m02 ∷ e.m03
-    ∷ e.m10 ∷ e.m11 ∷ e.m12 ∷ e.m13
-    ∷ e.m20 ∷ e.m21 ∷ e.m22 ∷ e.m23
-    ∷ e.m30 ∷ e.m31 ∷ e.m32 ∷ e.m33
-    ∷ []
 
 abbrev pub in_row : Row → Vector
 in_row r = r.x ∷ r.y ∷ r.z ∷ r.w ∷ []
@@ -55,16 +40,16 @@ trs p = record { translation = vec3 p.translation; rotation = quat p.rotation; s
 
 abbrev pub transform_of : Transform → model.Transform
 transform_of (transform.Trs p) = model.parts (trs p)
-transform_of (transform.Matrix e) = model.matrix (mat4 e)
+transform_of (transform.Matrix e) = model.matrix e.m
 
-abbrev pub unit_of : Direction → Option Vector
-unit_of (direction.Unit v) = some (vec3 v)
-unit_of direction.None = none
+abbrev pub unit_of : Option Vec3 → math.Option Vector
+unit_of (Some v) = math.some (vec3 v)
+unit_of None = math.none
 
-abbrev pub linear_of : Linear → Option (List Float)
-linear_of (linear.Of l) = some (mat3 l)
-linear_of linear.None = none
+abbrev pub linear_of : Option Mat3 → math.Option (List Float)
+linear_of (Some l) = math.some (mat3 l)
+linear_of None = math.none
 
-abbrev pub inverse_of : Inverse → Option Matrix
-inverse_of (inverse.Of e) = some (mat4 e)
-inverse_of inverse.None = none
+abbrev pub matrix_of : Option Mat4 → math.Option Matrix
+matrix_of (Some m) = math.some m.m
+matrix_of None = math.none

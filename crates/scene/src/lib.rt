@@ -7,12 +7,10 @@ mod transforms;
 mod vectors;
 
 pub use matrices::{
-    affine_point, identity, linear_det, linear_part, load, mat4_madd, mat4_mul, store,
+    affine_point, identity, linear_det, linear_part, load, mat4_madd, mat4_mul, matrix_at, store,
     transform_point,
 };
-pub use transforms::{
-    entries_of, entries_to_matrix, from_matrix, rot_matrix_to_quat, to_matrix, trs_to_matrix,
-};
+pub use transforms::{from_matrix, rot_matrix_to_quat, to_matrix, trs_to_matrix};
 pub use vectors::{mul3, normalize3, vec3_len};
 
 #[derive(Clone, Copy)]
@@ -57,51 +55,9 @@ pub struct Trs {
     pub scale: Vec3,
 }
 
-// A matrix by its entries, for places that hold no array.
-#[derive(Clone, Copy)]
-pub struct Entries {
-    pub m00: f32,
-    pub m01: f32,
-    pub m02: f32,
-    pub m03: f32,
-    pub m10: f32,
-    pub m11: f32,
-    pub m12: f32,
-    pub m13: f32,
-    pub m20: f32,
-    pub m21: f32,
-    pub m22: f32,
-    pub m23: f32,
-    pub m30: f32,
-    pub m31: f32,
-    pub m32: f32,
-    pub m33: f32,
-}
-
 // A node's base transform.
 #[derive(Clone, Copy)]
 pub enum Transform {
     Trs(Trs),
-    Matrix(Entries),
-}
-
-// A direction of length 1, or none where there is no length to divide by.
-#[derive(Clone, Copy)]
-pub enum Direction {
-    Unit(Vec3),
-    None,
-}
-
-// The matrix that turns normals, or none where there is no inverse.
-#[derive(Clone, Copy)]
-pub enum Linear {
-    Of(Mat3),
-    None,
-}
-
-// An inverse, or none where there is none.
-#[derive(Clone, Copy)]
-pub enum Inverse {
-    Of(Entries),
-    None,
+    Matrix(Mat4),
 }

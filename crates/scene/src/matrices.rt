@@ -112,10 +112,8 @@ pub fn mat4_madd(m: Mat4, w: f32, n: Mat4) -> Mat4
     let a = m.m;
     let b = n.m;
     let mut out = [0.0f32; 16];
-    let mut k = 0usize;
-    while k < 16 {
+    for k in 0..16 {
         out[k] = a[k] + w * b[k];
-        k += 1;
     }
     Mat4 { m: out }
 }
@@ -196,17 +194,13 @@ pub fn transform_point(m: Mat4, p: Vec3) -> Vec3
     divide(bottom(m, p), affine_point(m, p))
 }
 
-fn copy(s: &[f32], at: usize) -> Mat4
+// The sixteen numbers from s[at] on, which are all there.
+pub fn matrix_at(s: &[f32], at: usize) -> Mat4
     requires { at + 16 ≤ length s.now }
     ensures { result.m ≡ part s.now at 16 }
 {
-    let mut out = [0.0f32; 16];
-    let mut k = 0usize;
-    while k < 16 {
-        out[k] = s[at + k];
-        k += 1;
-    }
-    Mat4 { m: out }
+    let m = *s[at..].first_chunk().unwrap();
+    Mat4 { m }
 }
 
 // The sixteen numbers from s[at] on, or zeros where there are fewer.
@@ -215,7 +209,7 @@ pub fn load(s: &[f32], at: usize) -> Mat4
 {
     if 16 <= s.len() {
         if at <= s.len() - 16 {
-            return copy(s, at);
+            return matrix_at(s, at);
         }
     }
     Mat4 { m: [0.0f32; 16] }
@@ -225,12 +219,7 @@ fn put(s: &mut [f32], at: usize, m: Mat4)
     requires { at + 16 ≤ length s.old }
     ensures { s.new ≡ paste s.old at m.m 16 }
 {
-    let v = m.m;
-    let mut k = 0usize;
-    while k < 16 {
-        s[at + k] = v[k];
-        k += 1;
-    }
+    s[at..at + 16].copy_from_slice(&m.m);
 }
 
 // Puts m at s[at] and on, and answers whether it fits; where it does not, s is as lent.

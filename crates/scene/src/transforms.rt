@@ -3,10 +3,10 @@ ghost use Rattle.model.specs.Matrix.{column};
 ghost use Rattle.model.specs.Vector.{◌⊙◌, norm};
 ghost use Rattle.model.specs.Transform.{from_trs, to_matrix, length_factor, from_w, from_x, from_y, from_z, twice_root};
 ghost use Rattle.model.specs.Transform.{quaternion, direction, split};
-ghost use Rattle.scene.specs.Values.{vec3, quat, mat4, trs, transform_of};
+ghost use Rattle.scene.specs.Values.{vec3, quat, trs, transform_of};
 
 use crate::vectors::vec3_len;
-use crate::{Entries, Mat4, Quat, Transform, Trs, Vec3};
+use crate::{Mat4, Quat, Transform, Trs, Vec3};
 
 // The matrix of a translation, a rotation and a scale.
 pub fn trs_to_matrix(p: Trs) -> Mat4
@@ -50,48 +50,13 @@ pub fn trs_to_matrix(p: Trs) -> Mat4
     }
 }
 
-// A matrix by its entries.
-pub fn entries_of(m: Mat4) -> Entries
-    ensures { mat4 result ≡ m.m }
-{
-    Entries {
-        m00: m.m[0],
-        m01: m.m[1],
-        m02: m.m[2],
-        m03: m.m[3],
-        m10: m.m[4],
-        m11: m.m[5],
-        m12: m.m[6],
-        m13: m.m[7],
-        m20: m.m[8],
-        m21: m.m[9],
-        m22: m.m[10],
-        m23: m.m[11],
-        m30: m.m[12],
-        m31: m.m[13],
-        m32: m.m[14],
-        m33: m.m[15],
-    }
-}
-
-pub fn entries_to_matrix(e: Entries) -> Mat4
-    ensures { result.m ≡ mat4 e }
-{
-    Mat4 {
-        m: [
-            e.m00, e.m01, e.m02, e.m03, e.m10, e.m11, e.m12, e.m13, e.m20, e.m21, e.m22, e.m23,
-            e.m30, e.m31, e.m32, e.m33,
-        ],
-    }
-}
-
 // The matrix of a transform.
 pub fn to_matrix(t: Transform) -> Mat4
     ensures { result.m ≡ to_matrix (transform_of t) }
 {
     match t {
         Transform::Trs(p) => trs_to_matrix(p),
-        Transform::Matrix(e) => entries_to_matrix(e),
+        Transform::Matrix(m) => m,
     }
 }
 

@@ -3,7 +3,7 @@ ghost use Rattle.model.specs.Matrix.{turned};
 ghost use Rattle.model.specs.Vector.{norm, normalized};
 ghost use Rattle.scene.specs.Values.{vec3, mat3, unit_of};
 
-use crate::{Direction, Mat3, Vec3};
+use crate::{Mat3, Vec3};
 
 // The length of v.
 pub fn vec3_len(v: Vec3) -> f32
@@ -12,21 +12,21 @@ pub fn vec3_len(v: Vec3) -> f32
     square_root::sqrt(v.x * v.x + v.y * v.y + v.z * v.z)
 }
 
-// v divided by its length, where that is finite and above 0.
-pub fn normalize3(v: Vec3) -> Direction
+// v divided by its length, where that is finite and above 0; none elsewhere.
+pub fn normalize3(v: Vec3) -> Option<Vec3>
     ensures { unit_of result ≡ normalized (vec3 v) }
 {
     let len = vec3_len(v);
     if float::is_finite(len) {
         if len > 0.0 {
-            return Direction::Unit(Vec3 {
+            return Some(Vec3 {
                 x: v.x / len,
                 y: v.y / len,
                 z: v.z / len,
             });
         }
     }
-    Direction::None
+    None
 }
 
 // l times v: `mul3` of skinning.rs, `transform_dir` of transform.rs.

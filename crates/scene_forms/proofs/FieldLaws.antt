@@ -59,10 +59,10 @@ pub record LettersGoing (text : List ℕ) (letters word : ℕ) (m n : Met) (left
 
 module _ {text : List ℕ} {letters word : ℕ} {m n : Met} {left v : ℕ}
     (g : LettersGoing text letters word m n left v) where
-  pub letters-more : {next : Met} → 0 < left → next ≡ meet text (v % 256) n
-      → LettersGoing text letters word m next (left - 1) (v / 256)
-  letters-more h p = record {
-    still = ap (meets text (letters_in (left - 1) (v / 256))) p ∙ letters-on left v text n h ∙ g.still;
+  pub letters-more : {next : Met} {less : ℕ} → 0 < left → less ≡ left - 1 → next ≡ meet text (v % 256) n
+      → LettersGoing text letters word m next less (v / 256)
+  letters-more h q p = record {
+    still = (λ j. meets text (letters_in (q j) (v / 256)) (p j)) ∙ letters-on left v text n h ∙ g.still;
   }
 
   pub letters-done : left ≤ 0 → n ≡ meets text (letters_in letters word) m

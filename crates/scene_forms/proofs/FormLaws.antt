@@ -141,12 +141,12 @@ pub record FormsGoing (text : List ℕ) (k : ℕ) (p : Place) (a b : Slices) (q 
   pub turns : count + left ≡ length text
   pub long : SameLengths (from-to a b)
 
-pub forms-start : {text : List ℕ} {p : Place} (k : ℕ) (a : Slices) → Within text p.next p.counts
-    → FormsGoing text k p a a p 0 (length text)
-forms-start k a h = record {
-  read = refl;
-  rest = refl;
-  counted = omega arith;
+pub forms-start : {text : List ℕ} {p : Place} (k : ℕ) (a : Slices) {left : ℕ} → Within text p.next p.counts
+    → left ≡ length text → FormsGoing text k p a a p 0 left
+forms-start {text} {p} k a h e = record {
+  read = ap (λ (i : ℕ). put_forms text k (forms_left text k i p.next).made (read_at a p)) e;
+  rest = ap (λ (i : ℕ). (forms_left text k i p.next).rest) e;
+  counted = omega (arith, ap (λ (i : ℕ). length (forms_left text k i p.next).made) e);
   forth = omega arith;
   within = h;
   turns = omega arith;
@@ -178,11 +178,11 @@ module _ {text : List ℕ} {k : ℕ} {p : Place} {a b : Slices} {q : Place} {cou
   forms-other t r d =
       forms-end (forms-off (length text) left (kind_at k) (drop q.next text) (λ e. d (r.told ∙ e ∙ sym t)))
 
-  pub forms-out : left ≤ 0 → FormsRead text k p (from-to a b) (record { place = q; count = count })
+  pub forms-out : {n : ℕ} → left ≤ 0 → n ≡ count → FormsRead text k p (from-to a b) (record { place = q; count = n })
   unfolding forms_in
-  forms-out h =
+  forms-out h e =
       let z : left ≡ 0 = omega arith in
-      forms-end (ap (λ (i : ℕ). forms_in (length text) i (kind_at k) (drop q.next text)) z)
+      rw e (forms-end (ap (λ (i : ℕ). forms_in (length text) i (kind_at k) (drop q.next text)) z))
 
   -- behind the title
   abbrev pub titled : ℕ → Place
@@ -200,18 +200,19 @@ module _ {text : List ℕ} {k : ℕ} {p : Place} {a b : Slices} {q : Place} {cou
       → Within text w.next q.counts
   titled-within r = within_on g.within r.passed.forth (r.passed.inside g.within.inside)
 
-  pub forms-more : {w : Spelling} {code : ℕ} {c : Slices} {r : Place} → 0 < left → code ≡ code_of (kind_at k).title
+  pub forms-more : {w : Spelling} {code : ℕ} {c : Slices} {r : Place} {less : ℕ} → 0 < left → less ≡ left - 1
+      → code ≡ code_of (kind_at k).title
       → WordRead text q.next (name_in (drop q.next text)) w → w.value ≡ code
-      → FormRead text k (titled w.next) (from-to b c) r → FormsGoing text k p a c r (count + 1) (left - 1)
+      → FormRead text k (titled w.next) (from-to b c) r → FormsGoing text k p a c r (count + 1) less
   unfolding put_forms
-  forms-more {w} {code} {c} {r} h t n d s =
+  forms-more {w} {code} {c} {r} {less} h fewer t n d s =
       let fields : List ℕ → Got Form = λ l. fields_in (length text) (kind_at k).slots l in
-      let later = forms_left text k (left - 1) r.next in
+      let later = forms_left text k less r.next in
       let cons : forms_left text k left q.next ≡ onto (fields (drop w.next text)).made later
       = forms-on (length text) left (kind_at k) (drop q.next text) h (sym n.told ∙ d ∙ t)
-      ∙ ap (λ (l : List ℕ). onto (fields l).made (forms_in (length text) (left - 1) (kind_at k) (fields l).rest))
-      (sym n.passed.left)
-      ∙ ap (λ (l : List ℕ). onto (fields (drop w.next text)).made (forms_in (length text) (left - 1) (kind_at k) l))
+      ∙ (λ i. onto (fields (sym n.passed.left i)).made
+      (forms_in (length text) (sym fewer i) (kind_at k) (fields (sym n.passed.left i)).rest))
+      ∙ ap (λ (l : List ℕ). onto (fields (drop w.next text)).made (forms_in (length text) less (kind_at k) l))
       (sym s.passed.left) in
       record {
         read =

@@ -1,5 +1,5 @@
 // The fields of a form.
-ghost use Rattle.std.specs.Prelude.{◌&&◌, ◌≡◌, ◌+◌, ◌<◌, length};
+ghost use Rattle.std.specs.Prelude.{◌≡◌, ◌+◌, ◌<◌, length};
 ghost use Rattle.scene_schema.specs.Schema.{kind_at};
 ghost use Rattle.scene_schema.specs.Numbers.{letters_in, letters_of, size_for};
 ghost use Rattle.brackets.specs.Met.{meets};
@@ -17,12 +17,10 @@ fn meet_letters(text: &[u8], met: Met, letters: usize, word: u64) -> Met
     ensures { result ≡ meets text.now (letters_in letters word) met }
 {
     let mut m = met;
-    let mut left = letters;
     let mut v = word;
-    while 0 < left {
+    for _letter in 0..letters {
         m = brackets::meet(text, m, (v % 256) as u8);
-        v = v / 256;
-        left -= 1;
+        v /= 256;
     }
     m
 }
@@ -107,27 +105,19 @@ fn count_items(pool: Pool, n: usize, c: Counts) -> Counts
         Pool::Bits => c,
         Pool::Ids => Counts {
             ids: c.ids + n,
-            floats: c.floats,
-            node_weights: c.node_weights,
-            mesh_weights: c.mesh_weights,
+            ..c
         },
         Pool::Floats => Counts {
-            ids: c.ids,
             floats: c.floats + n,
-            node_weights: c.node_weights,
-            mesh_weights: c.mesh_weights,
+            ..c
         },
         Pool::NodeWeights => Counts {
-            ids: c.ids,
-            floats: c.floats,
             node_weights: c.node_weights + n,
-            mesh_weights: c.mesh_weights,
+            ..c
         },
         Pool::MeshWeights => Counts {
-            ids: c.ids,
-            floats: c.floats,
-            node_weights: c.node_weights,
             mesh_weights: c.mesh_weights + n,
+            ..c
         },
     }
 }
@@ -145,12 +135,6 @@ fn mark_of(pool: Pool, c: Counts, l: Listed) -> Mark
     }
 }
 
-fn both(a: bool, b: bool) -> bool
-    ensures { result ≡ (a && b) }
-{
-    if a { b } else { false }
-}
-
 // Behind the items of a field: its shape is judged at the closing bracket, which is compared.
 fn behind_items(text: &[u8], rule: Rule, s: Spot, l: Listed) -> Spot
     requires { start_in rule.pool s.counts + l.count < 0x1_0000_0000_0000_0000 }
@@ -164,7 +148,7 @@ fn behind_items(text: &[u8], rule: Rule, s: Spot, l: Listed) -> Spot
         next: l.next,
         counts: count_items(pool, l.count, counts),
         met: brackets::meet(text, met, 41),
-        shape: brackets::judge(shape, both(l.sorted, is_sized(rule, l.count)), met.at),
+        shape: brackets::judge(shape, l.sorted & is_sized(rule, l.count), met.at),
     }
 }
 
@@ -188,7 +172,7 @@ fn field(
     if w.value != name.code {
         return Entry {
             spot: s,
-            mark: scene_marks::absent(),
+            mark: Mark::default(),
         };
     }
     let met = s.met;
@@ -250,13 +234,11 @@ pub fn fields(
     let n = scene_schema::slots(k);
     let mut marks = [0usize; 80];
     let mut q = s;
-    let mut j = 0;
-    while j < n {
+    for j in 0..n {
         let e = field(text, k, j, q, words, floats, node_weights, mesh_weights);
         let m = e.mark;
         scene_marks::set_mark(&mut marks, j, m);
         q = renewed(e.spot);
-        j += 1;
     }
     Row { spot: q, marks }
 }

@@ -1,5 +1,5 @@
 // Forms, and all that is made of a text.
-ghost use Rattle.std.specs.Prelude.{◌≡◌, ◌<◌, max};
+ghost use Rattle.std.specs.Prelude.{◌≡◌, ◌<◌};
 ghost use Rattle.scene_forms.specs.Filled.{ahead, list_slot, reach_in, request_in};
 ghost use Rattle.scene_forms.specs.Read.{slices, Within, opened_at, closed_at, FormRead, FormsRead, start_at};
 ghost use Rattle.scene_forms.specs.Read.{DocumentRead};
@@ -40,12 +40,6 @@ fn reach_in(k: usize, marks: &[usize; 80]) -> usize
 {
     let m = scene_marks::mark_at(marks, list_slot(k));
     m.first % 0x1_0000_0000 + m.second % 0x1_0000_0000
-}
-
-fn greater(a: usize, b: usize) -> usize
-    ensures { result ≡ max a b }
-{
-    if a < b { b } else { a }
 }
 
 // What the scene form asks for; other forms leave it as it is.
@@ -96,7 +90,7 @@ fn closed(text: &[u8], k: usize, p: Place, s: Spot, marks: &[usize; 80]) -> Plac
         met: brackets::meet(text, brackets::meet(text, met, 41), 10),
         shape: brackets::judge(shape, scene_marks::groups_hold(k, marks), met.at),
         rows: ahead(p.rows, scene_schema::stride(k)),
-        reach: greater(p.reach, reach_in(k, marks)),
+        reach: p.reach.max(reach_in(k, marks)),
         request: request_in(k, marks, request),
     }
 }
@@ -137,19 +131,18 @@ fn forms_of(
 {
     let title = scene_schema::title(k);
     let mut q = p;
-    let mut count = 0;
-    let mut left = text.len();
-    while 0 < left {
+    for count in 0..text.len() {
         let w = brackets::name(text, q.next);
         if w.value != title.code {
             return Block { place: q, count };
         }
         q.next = w.next;
         q = form(text, k, q, words, floats, node_weights, mesh_weights);
-        count += 1;
-        left -= 1;
     }
-    Block { place: q, count }
+    Block {
+        place: q,
+        count: text.len(),
+    }
 }
 
 // Reads all that is made of a text, whether it has a reading or not: items and records to the tables as far as there is
@@ -169,14 +162,12 @@ pub fn document(
     let mut p = start(rows, met);
     let mut counts = [0usize; 9];
     let mut reaches = [0usize; 9];
-    let mut k = 0;
-    while k < 9 {
+    for k in 0..9 {
         p.reach = 0;
         let b = forms_of(text, k, p, words, floats, node_weights, mesh_weights);
         p = b.place;
         counts[k] = b.count;
         reaches[k] = p.reach;
-        k += 1;
     }
     Found {
         place: p,

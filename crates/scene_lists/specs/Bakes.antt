@@ -12,8 +12,8 @@ use Rattle.bake.specs.declared.Answer.{Answer}
 use Rattle.comparing.specs.declared.Agreement.{Agreement}
 use Rattle.comparing.specs.Compared.{compared}
 use Rattle.lists.specs.Fields.{ahead_of, behind_list, list_at, floats_at}
-use Rattle.scene_lists.specs.declared.Asked.{Asked}
-use Rattle.scene_lists.specs.declared.Outcome.{Outcome}
+use Rattle.scene_lists.specs.declared.bakes.Asked.{Asked}
+use Rattle.scene_lists.specs.declared.bakes.Outcome.{Outcome}
 
 -- behind three lists of up to 96 floats
 abbrev pub behind_outputs : List ℕ → ℕ → ℕ
@@ -108,9 +108,6 @@ abbrev pub output_left : Lent → List ℕ → ℕ → Output → Output
 output_left l fields at lent =
     (room_after l (asked_at fields at).node (asked_at fields at).time (room_at fields at lent)).output
 
-abbrev pub Leaves : Lent → List ℕ → ℕ → Change Output → Type 0
-Leaves l fields at o = o.to ≡ output_left l fields at o.from
-
 -- the answer of that bake, whether it is the right one, and how the outputs agree with those that are right
 pub record Compares (l : Lent) (fields : List ℕ) (at : ℕ) (lent : Output) (answer : Answer) (told : Bool)
     (floats : Agreement) : Type 0 where
@@ -121,14 +118,9 @@ pub record Compares (l : Lent) (fields : List ℕ) (at : ℕ) (lent : Output) (a
       floats ≡ outputs_compared left.positions left.normals left.tangents fields (left_at fields at)
       (asked_at fields at).most
 
--- an array starts with these
-abbrev pub Starts : List Float → List Float → Type 0
-Starts xs array = take (length xs) array ≡ xs
-
 -- the bake at a place: behind the outputs as they are lent stands what is asked
 pub record Replayed (l : Lent) (fields : List ℕ) (at : ℕ) (o : Outcome) : Type 0 where
   pub compares : Compares l fields (behind_outputs fields at) (outputs_at fields at) o.answer o.told o.floats
   pub time : o.time ≡ (asked_at fields (behind_outputs fields at)).time
-  pub positions : Starts (output_left l fields (behind_outputs fields at) (outputs_at fields at)).positions o.positions
-  pub normals : Starts (output_left l fields (behind_outputs fields at) (outputs_at fields at)).normals o.normals
-  pub end : o.end ≡ behind_outputs fields (left_at fields (behind_outputs fields at))
+  pub positions : o.positions.items ≡ (output_left l fields (behind_outputs fields at) (outputs_at fields at)).positions
+  pub normals : o.normals.items ≡ (output_left l fields (behind_outputs fields at) (outputs_at fields at)).normals

@@ -1,2 +1,3 @@
 pub mod Scenes
+pub mod Lent
 pub mod Bakes

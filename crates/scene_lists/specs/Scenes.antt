@@ -6,7 +6,6 @@ use Rattle.tables.specs.declared.Header.{Header}
 use Rattle.tables.specs.declared.Meshes.{Meshes}
 use Rattle.tables.specs.declared.Skins.{Skins}
 use Rattle.lists.specs.Fields.{ahead_of, behind_list}
-use Rattle.scene_lists.specs.declared.Places.{Places}
 
 -- table k of a header: where it starts, and how many records it has
 abbrev pub part_at : List ℕ → ℕ → ℕ → Part
@@ -34,6 +33,14 @@ header_at fields at = record {
   meshes = meshes_at fields at;
   skins = skins_at fields at;
 }
+
+-- where the lists of a scene stand, and what is behind them
+pub record Places : Type 0 where
+  pub words : ℕ
+  pub floats : ℕ
+  pub node_weights : ℕ
+  pub mesh_weights : ℕ
+  pub end : ℕ
 
 -- behind the 18 fields of the header the lists words, floats, node weights and mesh weights
 abbrev pub places_at : List ℕ → ℕ → ℕ → ℕ → Places

@@ -1,23 +1,47 @@
-// Where the lists of a scene stand, behind its header.
-ghost use Rattle.std.specs.Prelude.{◌≡◌};
-ghost use Rattle.scene_lists.specs.Scenes.{places_at};
+// A scene: behind its header the lists words, floats, node weights and mesh weights.
+ghost use Rattle.std.specs.Prelude.{◌≡◌, IfOk};
 
-use crate::Places;
-use lists::{ahead, behind_list};
+use crate::headers::header;
+use lists::Fields;
+use std::alloc::{AllocError, Global};
+use tables::Header;
 
-// With room for so many floats, and weights of each sort.
-pub fn places_at(fields: &[u32], at: usize, room: usize, weights: usize) -> Places
-    ensures { result ≡ places_at fields.now at room weights }
-{
-    let words = ahead(fields, at, 18);
-    let floats = behind_list(fields, words, fields.len());
-    let node_weights = behind_list(fields, floats, room);
-    let mesh_weights = behind_list(fields, node_weights, weights);
-    Places {
-        words,
-        floats,
-        node_weights,
-        mesh_weights,
-        end: behind_list(fields, mesh_weights, weights),
+#[derive(Drop)]
+pub struct Scene<'a> {
+    pub words: &'a [u32],
+    pub floats: Vec<f32>,
+    pub node_weights: Vec<f32>,
+    pub mesh_weights: Vec<f32>,
+    pub header: Header,
+}
+
+impl<'a> Scene<'a> {
+    ghost use Rattle.lists.specs.Moves.{MovesTo};
+    ghost use Rattle.scene_lists.specs.Scenes.{places_at};
+    ghost use Rattle.scene_lists.specs.Lent.{lent_of, lent_at};
+
+    // With room for so many floats, and weights of each sort.
+    pub fn read(
+        alloc: Global,
+        fields: &mut Fields<'a>,
+        room: usize,
+        weights: usize,
+    ) -> Result<Self, AllocError>
+        ensures scene { IfOk result (λ s. lent_of s ≡ lent_at fields.old.all.now fields.old.at room weights) }
+        ensures moves { IfOk result (λ _. MovesTo fields.old fields.new
+            (places_at fields.old.all.now fields.old.at room weights).end) }
+    {
+        let header = header(fields);
+        let words = fields.list(fields.all.len());
+        let floats = fields.floats(alloc, room)?;
+        let node_weights = fields.floats(alloc, weights)?;
+        let mesh_weights = fields.floats(alloc, weights)?;
+        Ok(Scene {
+            words,
+            floats,
+            node_weights,
+            mesh_weights,
+            header,
+        })
     }
 }

@@ -69,9 +69,9 @@ module _ {marks : List ℕ} {a n : ℕ} where
     pub choosing-found : {m : Mark} → i < n → m ≡ mark_at marks (a + i) → (m.there ≡ 0 → ⊥) → i ≡ chosen marks a n
     choosing-found h e d = let turn = simp (ne_eqb _ 0 d) at (chosen-turn marks a n i h e) in omega arith
 
-    pub choosing-ends : n ≤ i → i ≡ chosen marks a n
+    pub choosing-ends : n ≤ i → n ≡ chosen marks a n
     unfolding chosen
-    choosing-ends h = let none : n - i ≡ 0 = omega arith in omega (arith, rw none at g.same)
+    choosing-ends h = let none : n - i ≡ 0 = omega arith in omega (arith, g.few, rw none at g.same)
 
 -- ---- how many are there
 present-turn : (marks : List ℕ) (j n i : ℕ) {m : Mark} → i < n → m ≡ mark_at marks (j + i)

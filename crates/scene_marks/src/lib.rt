@@ -8,32 +8,19 @@ ghost use Rattle.std.proofs.lemmas.List.Edits.{sets};
 ghost use Rattle.scene_schema.specs.Layout.{layout};
 ghost use Rattle.scene_schema.specs.Numbers.{slot_rules, no_rule};
 ghost use Rattle.scene_schema.specs.declared.Source.TheVariants.{Nothing};
-ghost use Rattle.scene_marks.specs.Marks.{no_mark, set_mark, mark_at, chosen, word_from, row_of, present_from};
+ghost use Rattle.scene_marks.specs.Marks.{set_mark, mark_at, chosen, word_from, row_of, present_from};
 ghost use Rattle.scene_marks.specs.Marks.{group_at, groups_of};
 
 use scene_schema::Source;
 
 // A field: whether it is there, where its items start in their table, how many they are, and the first two.
-#[derive(Clone, Copy)]
+#[derive(Clone, Copy, Default)]
 pub struct Mark {
     pub there: usize,
     pub start: usize,
     pub count: usize,
     pub first: usize,
     pub second: usize,
-}
-
-// The field that is not there.
-pub fn absent() -> Mark
-    ensures { result ≡ no_mark }
-{
-    Mark {
-        there: 0,
-        start: 0,
-        count: 0,
-        first: 0,
-        second: 0,
-    }
 }
 
 // Slot j.
@@ -49,7 +36,7 @@ pub fn mark_at(marks: &[usize; 80], j: usize) -> Mark
             second: marks[5 * j + 4],
         };
     }
-    absent()
+    Mark::default()
 }
 
 // Slot j is a field; there are sixteen.
@@ -65,26 +52,18 @@ pub fn set_mark(marks: &mut [usize; 80], j: usize, m: Mark)
     }
 }
 
-fn wide(x: u8) -> usize
-    ensures { (result ≡ x) × (result < 256) }
-{
-    x as usize
-}
-
 // Of slot a and n more behind it, the first that is there, counted from a; the last where none before it is.
 fn chosen(marks: &[usize; 80], a: usize, n: usize) -> usize
     requires { (a < 256) × (n < 256) }
     ensures { (result ≡ chosen marks.now a n) × (result ≤ n) }
 {
-    let mut i = 0;
-    while i < n {
+    for i in 0..n {
         let m = mark_at(marks, a + i);
         if m.there != 0 {
             return i;
         }
-        i += 1;
     }
-    i
+    n
 }
 
 // How many entries so many items of slot j of kind k are.
@@ -93,7 +72,7 @@ fn entries(k: usize, j: usize, count: usize) -> usize
     ensures { result ≡ count / (get_or slot_rules (16 * k + j) no_rule).width }
 {
     let rule = scene_schema::slot_rule(16 * k + j);
-    let width = wide(rule.width);
+    let width = rule.width as usize;
     if width == 0 {
         return 0;
     }
@@ -104,7 +83,7 @@ fn entries(k: usize, j: usize, count: usize) -> usize
 fn the_one(marks: &[usize; 80], a: u8, n: u8) -> usize
     ensures { (result ≡ a + chosen marks.now a n) × (result < 512) }
 {
-    wide(a) + chosen(marks, wide(a), wide(n))
+    a as usize + chosen(marks, a as usize, n as usize)
 }
 
 // A word of a record of kind k from its source, before it is cut to 32 bits.
@@ -114,9 +93,9 @@ fn word(k: usize, source: Source, marks: &[usize; 80]) -> usize
 {
     match source {
         Source::Nothing => 0,
-        Source::Tag(a, n) => chosen(marks, wide(a), wide(n)),
+        Source::Tag(a, n) => chosen(marks, a as usize, n as usize),
         Source::Mark(j) => {
-            let m = mark_at(marks, wide(j));
+            let m = mark_at(marks, j as usize);
             m.there
         }
         Source::Start(a, n) => {
@@ -129,11 +108,11 @@ fn word(k: usize, source: Source, marks: &[usize; 80]) -> usize
             entries(k, j, m.count)
         }
         Source::First(j) => {
-            let m = mark_at(marks, wide(j));
+            let m = mark_at(marks, j as usize);
             m.first
         }
         Source::Second(j) => {
-            let m = mark_at(marks, wide(j));
+            let m = mark_at(marks, j as usize);
             m.second
         }
     }
@@ -170,10 +149,8 @@ pub fn put_row(k: usize, marks: &[usize; 80], words: &mut [u32], at: usize)
         return;
     }
     let n = scene_schema::stride(k);
-    let mut w = 0;
-    while w < n {
+    for w in 0..n {
         store(words, at + w, word_at(k, w, marks));
-        w += 1;
     }
 }
 
@@ -183,13 +160,11 @@ fn present(marks: &[usize; 80], j: usize, n: usize) -> usize
     ensures { result ≡ present_from n j marks.now }
 {
     let mut count = 0;
-    let mut i = 0;
-    while i < n {
+    for i in 0..n {
         let m = mark_at(marks, j + i);
         if m.there != 0 {
             count += 1;
         }
-        i += 1;
     }
     count
 }
@@ -199,7 +174,7 @@ fn group_holds(k: usize, j: usize, marks: &[usize; 80]) -> bool
     requires { (k < 9) × (j < 16) }
     ensures { result ≡ group_at k j marks.now }
 {
-    let n = wide(scene_schema::group(16 * k + j));
+    let n = scene_schema::group(16 * k + j) as usize;
     if n == 0 {
         return true;
     }
@@ -211,12 +186,10 @@ pub fn groups_hold(k: usize, marks: &[usize; 80]) -> bool
     ensures { result ≡ groups_of k marks.now }
 {
     let n = scene_schema::slots(k);
-    let mut j = 0;
-    while j < n {
+    for j in 0..n {
         if !group_holds(k, j, marks) {
             return false;
         }
-        j += 1;
     }
     true
 }

@@ -14,12 +14,12 @@ use Rattle.spelling.proofs.Pushing.{put-sets, sets-out}
 use Rattle.scene_schema.specs.declared.Name.{Name}
 use Rattle.scene_schema.specs.Numbers.{letters_in, letters_of}
 
-pub letters-more : (k v i : ℕ) (l : List ℕ) → 0 < k
-    → sets (set l i (v % 256)) (i + 1) (letters_in (k - 1) (v / 256)) ≡ sets l i (letters_in k v)
+pub letters-more : (k v i : ℕ) (l : List ℕ) {less : ℕ} → 0 < k → less ≡ k - 1
+    → sets (set l i (v % 256)) (i + 1) (letters_in less (v / 256)) ≡ sets l i (letters_in k v)
 unfolding letters_in
-letters-more zero v i l h = absurd (omega arith)
-letters-more (suc k) v i l h =
-    let one : suc k - 1 ≡ k = omega arith in
+letters-more zero v i l h e = absurd (omega arith)
+letters-more (suc k) v i l {less} h e =
+    let one : less ≡ k = omega arith in
     λ j. sets (set l i (v % 256)) (add-one i j) (letters_in (one j) (v / 256))
 
 pub letters-none : (k v i : ℕ) (l : List ℕ) → k ≤ 0 → sets l i (letters_in k v) ≡ l

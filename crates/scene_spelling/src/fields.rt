@@ -17,14 +17,10 @@ fn store_letters(out: &mut [u8], at: usize, letters: usize, word: u64)
     requires { at + letters ≤ length out.old }
     ensures { out.new ≡ sets out.old at (letters_in letters word) }
 {
-    let mut k = at;
-    let mut left = letters;
     let mut v = word;
-    while 0 < left {
+    for k in at..at + letters {
         out[k] = (v % 256) as u8;
-        k += 1;
-        v = v / 256;
-        left -= 1;
+        v /= 256;
     }
 }
 

@@ -2,7 +2,8 @@
 ghost use Rattle.grammar.specs.Digits.{numbers};
 ghost use Rattle.grammar.specs.Forms.{form_text};
 ghost use Rattle.spelling.specs.Pushed.{Puts};
-ghost use Rattle.tables.specs.Records.{node_row, channel_row, mesh_row, primitive_row, target_row, in_between_row, skin_row};
+ghost use Rattle.tables.specs.Records.{node_row, channel_row, mesh_row, primitive_row, target_row, in_between_row};
+ghost use Rattle.tables.specs.Records.{skin_row};
 ghost use Rattle.tables.specs.Records.{skeleton_row};
 ghost use Rattle.scene_schema.specs.Schema.{kind_at};
 ghost use Rattle.scene_spelling.specs.Written.{joints_field, scene_form, node_form, channel_form, mesh_form};

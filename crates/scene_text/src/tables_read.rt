@@ -88,10 +88,8 @@ fn words_for(ids: usize, counts: [usize; 9]) -> usize
     ensures { (result ≡ words_for ids counts) × (result ≤ farthest) }
 {
     let mut sum = ids;
-    let mut k = 0;
-    while k < 9 {
+    for k in 0..9 {
         sum = more_words(sum, counts[k], scene_schema::stride(k));
-        k += 1;
     }
     sum
 }

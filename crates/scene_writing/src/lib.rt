@@ -87,8 +87,7 @@ fn put_table(
 {
     let t = table_for(h, k);
     let mut next = at;
-    let mut i = 0;
-    while i < t.count {
+    for i in 0..t.count {
         next = put_record(
             out,
             next,
@@ -101,7 +100,6 @@ fn put_table(
             k,
             i,
         );
-        i += 1;
     }
     next
 }
@@ -122,10 +120,8 @@ fn put_text(
     let graph = h.graph;
     let roots = graph.roots;
     let mut next = scene_spelling::put_scene(out, 0, words, roots, node, time);
-    let mut k = 0;
-    while k < 8 {
+    for k in 0..8 {
         next = put_table(out, next, words, floats, node_weights, mesh_weights, h, k);
-        k += 1;
     }
     next
 }
@@ -143,7 +139,13 @@ pub fn text_length(
     ensures { result ≡ (let l = scene_lent words floats node_weights mesh_weights h in
         length_for l (scene_text l node time)) }
 {
-    let number = checks::tables_number(words, floats, node_weights, mesh_weights, h);
+    let number = refusals::number(checks::check_tables(
+        words,
+        floats,
+        node_weights,
+        mesh_weights,
+        h,
+    ));
     if number != 0 {
         return Written { number, length: 0 };
     }

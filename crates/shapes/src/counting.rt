@@ -66,11 +66,9 @@ pub fn mesh_lengths(words: &[u32], table: Part, part: Part) -> Lengths
     ensures { result ≡ lengths_below words.now table part part.count }
 {
     let mut total = none();
-    let mut k = 0usize;
-    while k < part.count {
+    for k in 0..part.count {
         let n = row_lengths(primitive_at(words, table, part, k));
         total = plus(total, n);
-        k += 1;
     }
     total
 }

@@ -74,8 +74,7 @@ pub fn write_mesh(
         positions normals tangents }
 {
     let mut at = none();
-    let mut k = 0usize;
-    while k < part.count {
+    for k in 0..part.count {
         let row = primitive_at(words, h.meshes.primitives, part, k);
         let n = row_lengths(row);
         put_primitive(
@@ -94,6 +93,5 @@ pub fn write_mesh(
             tangents,
         );
         at = plus(at, n);
-        k += 1;
     }
 }

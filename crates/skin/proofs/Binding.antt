@@ -15,9 +15,8 @@ use Rattle.tables.specs.declared.SkeletonRow.{SkeletonRow}
 use Rattle.tables.specs.Records.{skin_row, skeleton_row}
 use Rattle.tables.specs.Decoded.{Lent, span_in, skeleton_of, scene_of}
 use Rattle.tables.proofs.Decoding.{skin-at, no-skin, skeleton-at, no-skeleton}
-use Rattle.skin.specs.declared.Bound.{Bound}
-use Rattle.skin.specs.declared.Bound.TheVariants as bound
-use Rattle.skin.specs.Skeletons.{row_of}
+use Rattle.std.specs.Prelude as rust
+use Rattle.tables.specs.Tags.{option_of}
 use Rattle.skin.specs.Palette.{skeleton_in}
 
 module _ (l : Lent) (k : ℕ) where
@@ -38,15 +37,15 @@ module _ (l : Lent) (k : ℕ) where
     skeleton-there g t q = named ∙ skeleton-at l b g ∙ ap (λ (r : SkeletonRow). some (skeleton_of l r)) (sym q)
 
 -- ---- the palette
-module _ (l : Lent) (k : ℕ) (world : ℕ → Option Matrix) (b : Bound) (e : scene.skeleton_of (scene_of l) k ≡ map_some (skeleton_of l) (row_of b)) where
+module _ (l : Lent) (k : ℕ) (world : ℕ → Option Matrix) (b : rust.Option SkeletonRow) (e : scene.skeleton_of (scene_of l) k ≡ map_some (skeleton_of l) (option_of b)) where
   abbrev palette : Option scene.Skeleton → Option (List Matrix)
   palette o = and_then o (λ (t : scene.Skeleton). palette_of world t)
 
-  pub none-bound : b ≡ bound.Nothing → skin_palette world (scene_of l) k ≡ none
-  none-bound n = ap palette (e ∙ ap (λ (x : Bound). map_some (skeleton_of l) (row_of x)) n)
+  pub none-bound : b ≡ rust.None → skin_palette world (scene_of l) k ≡ none
+  none-bound n = ap palette (e ∙ ap (λ (x : rust.Option SkeletonRow). map_some (skeleton_of l) (option_of x)) n)
 
-  pub bound-to : (row : SkeletonRow) → b ≡ bound.Skeleton row → (joints : List ℕ) → joints ≡ span_in l.words row.joints 1
+  pub bound-to : (row : SkeletonRow) → b ≡ rust.Some row → (joints : List ℕ) → joints ≡ span_in l.words row.joints 1
       → (binds : List Float) → binds ≡ span_in l.floats row.inverse_binds 16 → skin_palette world (scene_of l) k ≡ palette_of world (skeleton_in joints binds)
   bound-to row r joints p binds q =
-      ap palette (e ∙ ap (λ (x : Bound). map_some (skeleton_of l) (row_of x)) r)
+      ap palette (e ∙ ap (λ (x : rust.Option SkeletonRow). map_some (skeleton_of l) (option_of x)) r)
       ∙ (λ i. palette_of world (skeleton_in (sym p i) (sym q i)))

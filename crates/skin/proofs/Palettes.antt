@@ -22,9 +22,9 @@ use Rattle.model.specs.SkinCalls.{skin_palette}
 use Rattle.tables.specs.declared.Header.{Header}
 use Rattle.tables.specs.Decoded.{scene_of}
 use Rattle.checks.specs.Drawn.{lent_as}
-use Rattle.skin.specs.declared.Joints.{Joints}
-use Rattle.skin.specs.declared.Joints.TheVariants as joints
-use Rattle.skin.specs.Palette.{number_of, count_of, has_world, skeleton_in, bind_in, palette_in, Counted}
+use Rattle.std.specs.Prelude as rust
+use Rattle.tables.specs.Tags.{option_of}
+use Rattle.skin.specs.Palette.{number_of, has_world, skeleton_in, bind_in, palette_in, Counted}
 
 tabulate-alike : {A : Type 0} (n : ℕ) (f g : ℕ → A) → ((i : ℕ) → i < n → f i ≡ g i) → tabulate n f ≡ tabulate n g
 unfolding tabulate
@@ -152,15 +152,15 @@ module _ (n : ℕ) (codes : List ℕ) (slots : List Float) (js : List ℕ) (bind
 
 -- ---- the answer of a count, by its cases
 
-numbered-by : (r : Joints) (p : Option (List Matrix)) → count_of r ≡ map_some length p → number_of r ≡ pick (is_some p) 0 9
-numbered-by (joints.Count n) none e = absurd (true≢false (ap is_some e))
-numbered-by (joints.Count n) (some m) e = refl
-numbered-by joints.Nothing none e = refl
-numbered-by joints.Nothing (some m) e = absurd (false≢true (ap is_some e))
+numbered-by : (r : rust.Option ℕ) (p : Option (List Matrix)) → option_of r ≡ map_some length p → number_of r ≡ pick (is_some p) 0 9
+numbered-by (rust.Some n) none e = absurd (true≢false (ap is_some e))
+numbered-by (rust.Some n) (some m) e = refl
+numbered-by rust.None none e = refl
+numbered-by rust.None (some m) e = absurd (false≢true (ap is_some e))
 
-pub counted : (words : List ℕ) (floats : List Float) (h : Header) (k : ℕ) (codes : List ℕ) (r : Joints)
+pub counted : (words : List ℕ) (floats : List Float) (h : Header) (k : ℕ) (codes : List ℕ) (r : rust.Option ℕ)
     → ((node_weights mesh_weights slots : List Float)
-    → count_of r ≡ map_some length (skin_palette (world_in h.graph.nodes.count codes slots) (scene_of (lent_as words floats node_weights mesh_weights h)) k))
+    → option_of r ≡ map_some length (skin_palette (world_in h.graph.nodes.count codes slots) (scene_of (lent_as words floats node_weights mesh_weights h)) k))
     → Counted words floats h k codes r
 counted words floats h k codes r f = record {
   count = f;

@@ -1,19 +1,21 @@
 -- What the call for a node's palette answers and leaves: scope, "Palette, skin root, weights" and "Numbers when a piece
 -- is turned down". Definitions only.
-use Rattle.std.specs.Prelude.{◌≡◌, List, [], ◌++◌, ℕ, ◌*◌, ◌/◌, min, eqb, Float, length, drop}
+use Rattle.std.specs.Prelude as rust
+use Rattle.std.specs.Prelude.{◌≡◌, List, [], ◌++◌, ℕ, ◌*◌, ◌/◌, min, eqb, Float, length, drop, Result, Ok, Err}
 use Rattle.std.proofs.Math.Option.{Option}
 use Rattle.borrowed.specs.Slices.{Change}
 use Rattle.model.specs.Lists.{pick, joined, or_else, map_some}
 use Rattle.model.specs.Matrix.{Matrix}
 use Rattle.model.specs.Scene.{node_count}
 use Rattle.model.specs.SkinCalls.{node_palette, palette_number}
+use Rattle.refusals.specs.declared.Refusal.{Refusal}
+use Rattle.refusals.specs.Drawn.{number_of}
 use Rattle.tables.specs.declared.Header.{Header}
 use Rattle.tables.specs.Decoded.{Lent, scene_of}
 use Rattle.checks.specs.Drawn.{lent_as, tables_number}
 use Rattle.worlds.specs.Slots.{world_in}
-use Rattle.skin.specs.declared.Joints.{Joints}
 use Rattle.skin.specs.declared.Answer.{Answer}
-use Rattle.skin.specs.Palette.{count_of}
+use Rattle.tables.specs.Tags.{option_of}
 
 -- the palette of node i, from the world slots
 abbrev pub palette_at : Lent → ℕ → List ℕ → List Float → Option (List Matrix)
@@ -21,9 +23,14 @@ palette_at l i codes slots = node_palette (world_in (node_count (scene_of l)) co
 
 -- how long it is, whatever the worlds are
 pub record NodeCounted (words : List ℕ) (floats : List Float) (h : Header) (i : ℕ) (codes : List ℕ)
-    (r : Joints) : Type 0 where
+    (r : rust.Option ℕ) : Type 0 where
   pub count : (node_weights mesh_weights slots : List Float)
-      → count_of r ≡ map_some length (palette_at (lent_as words floats node_weights mesh_weights h) i codes slots)
+      → option_of r ≡ map_some length (palette_at (lent_as words floats node_weights mesh_weights h) i codes slots)
+
+-- what a C function answers
+abbrev pub answer_of : Result ℕ Refusal → Answer
+answer_of (Ok length') = record { number = 0; length = length' }
+answer_of (Err r) = record { number = number_of r; length = 0 }
 
 -- the answer with n world slots and room for so many floats, whatever the worlds are
 pub record Judged (l : Lent) (i : ℕ) (codes : List ℕ) (n room : ℕ) (a : Answer) : Type 0 where

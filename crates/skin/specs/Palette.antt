@@ -1,5 +1,6 @@
 -- The palette of a skin from lent world slots, how long it is, and where it is written: scope, "Palette, skin root,
 -- weights". Definitions only.
+use Rattle.std.specs.Prelude as rust
 use Rattle.std.specs.Prelude.{◌≡◌, Bool, ◌&&◌, List, [], ◌++◌, ℕ, ◌*◌, ltb, leb, Float, length, get_or, drop}
 use Rattle.std.proofs.Math.Option.{Option, none, some}
 use Rattle.borrowed.specs.Slices.{Change}
@@ -10,21 +11,15 @@ use Rattle.model.specs.Scene.{Skeleton}
 use Rattle.model.specs.SkinCalls.{skin_palette}
 use Rattle.scene.specs.Slots.{matrix_in}
 use Rattle.tables.specs.declared.Header.{Header}
-use Rattle.tables.specs.Tags.{is_marked}
+use Rattle.tables.specs.Tags.{is_marked, option_of}
 use Rattle.tables.specs.Decoded.{scene_of}
 use Rattle.checks.specs.Drawn.{lent_as}
 use Rattle.worlds.specs.Slots.{world_in}
-use Rattle.skin.specs.declared.Joints.{Joints}
-use Rattle.skin.specs.declared.Joints.TheVariants as joints
 
--- an answer's number, 9 where no palette can be made, and its count
-abbrev pub number_of : Joints → ℕ
-number_of (joints.Count n) = 0
-number_of joints.Nothing = number no_palette
-
-abbrev pub count_of : Joints → Option ℕ
-count_of (joints.Count n) = some n
-count_of joints.Nothing = none
+-- an answer's number, 9 where no palette can be made
+abbrev pub number_of : rust.Option ℕ → ℕ
+number_of (rust.Some n) = 0
+number_of rust.None = number no_palette
 
 -- node j of n has a world, by the codes of the places
 abbrev pub has_world : ℕ → List ℕ → ℕ → Bool
@@ -49,9 +44,9 @@ laid_out p lent = pick (leb (length p * 16) (length lent)) (joined (λ m. m) p +
 
 -- whether there is a palette of skin k, and how long it is, whatever the worlds are
 pub record Counted (words : List ℕ) (floats : List Float) (h : Header) (k : ℕ) (codes : List ℕ)
-    (r : Joints) : Type 0 where
+    (r : rust.Option ℕ) : Type 0 where
   pub count : (node_weights mesh_weights slots : List Float)
-      → count_of r
+      → option_of r
       ≡ map_some length (skin_palette (world_in h.graph.nodes.count codes slots)
       (scene_of (lent_as words floats node_weights mesh_weights h)) k)
   pub numbered : (node_weights mesh_weights slots : List Float)

@@ -1,38 +1,30 @@
-ghost use Rattle.std.specs.Prelude.{◌≡◌};
 ghost use Rattle.borrowed.specs.Slices.{change};
 ghost use Rattle.checks.specs.Drawn.{scene_lent};
-ghost use Rattle.skin.specs.Calls.{NodeCounted, Judged, Answered};
+ghost use Rattle.skin.specs.Calls.{NodeCounted, answer_of, Judged, Answered};
 
 use crate::palette::{palette_count, write_palette};
-use crate::{Answer, Joints};
-use refusals::{NO_PALETTE, NO_SUCH_NODE, SHORT_OUTPUT, SHORT_SCRATCH};
+use refusals::Refusal;
 use skin_roots::wide;
 use tables::Header;
 
 // How many joint matrices the palette of a node has.
-fn node_count(words: &[u32], floats: &[f32], h: Header, node: u32, places: &[u32]) -> Joints
+fn node_count(words: &[u32], floats: &[f32], h: Header, node: u32, places: &[u32]) -> Option<usize>
     ensures { NodeCounted words.now floats.now h node places.now result }
 {
     let i = wide(node);
     let nodes = h.graph.nodes;
     if nodes.count <= i {
-        return Joints::Nothing;
+        return None;
     }
     let row = tables::node_row(words, nodes, i);
     if row.skin.mark == 0 {
-        return Joints::Nothing;
+        return None;
     }
     palette_count(words, floats, h, row.skin.id, places)
 }
 
-fn refusal(number: u32) -> Answer
-    ensures { result ≡ record { number = number; length = 0 } }
-{
-    Answer { number, length: 0 }
-}
-
-// The answer for the palette of a node, with so many world slots, and room for so many floats.
-fn judge(
+// How many floats the palette of a node has, with so many world slots, and room for so many floats.
+fn check_palette(
     words: &[u32],
     floats: &[f32],
     node_weights: &[f32],
@@ -42,35 +34,28 @@ fn judge(
     places: &[u32],
     slots: usize,
     room: usize,
-) -> Answer
+) -> Result<usize, Refusal>
     ensures { Judged (scene_lent words floats node_weights mesh_weights h) node
-        places.now slots room result }
+        places.now slots room (answer_of result) }
 {
-    let drawn = checks::tables_number(words, floats, node_weights, mesh_weights, h);
-    if drawn != 0 {
-        return refusal(drawn);
-    }
+    checks::check_tables(words, floats, node_weights, mesh_weights, h)?;
     let n = h.graph.nodes.count;
     if slots < n {
-        return refusal(SHORT_SCRATCH);
+        return Err(Refusal::ShortScratch);
     }
     if n <= wide(node) {
-        return refusal(NO_SUCH_NODE);
+        return Err(Refusal::NoSuchNode);
     }
-    let Joints::Count(k) = node_count(words, floats, h, node, places) else {
-        return refusal(NO_PALETTE);
+    let Some(k) = node_count(words, floats, h, node, places) else {
+        return Err(Refusal::NoPalette);
     };
     if room / 16 < k {
-        return refusal(SHORT_OUTPUT);
+        return Err(Refusal::ShortOutput);
     }
-    Answer {
-        number: 0,
-        length: k * 16,
-    }
+    Ok(k * 16)
 }
 
-// Writes the palette of a node, from worlds that are given, to the start of `out`. Where a number is answered, nothing
-// is changed.
+// Writes the palette of a node, from worlds that are given, to the start of `out`. Refused, nothing is changed.
 pub fn joint_matrices_with(
     words: &[u32],
     floats: &[f32],
@@ -81,11 +66,11 @@ pub fn joint_matrices_with(
     places: &[u32],
     worlds: &[f32],
     out: &mut [f32],
-) -> Answer
+) -> Result<usize, Refusal>
     ensures { Answered (scene_lent words floats node_weights mesh_weights h) node places.now
-        worlds.now (change out) result }
+        worlds.now (change out) (answer_of result) }
 {
-    let answer = judge(
+    let length = check_palette(
         words,
         floats,
         node_weights,
@@ -95,11 +80,8 @@ pub fn joint_matrices_with(
         places,
         wire::least(places.len(), worlds.len() / 16),
         out.len(),
-    );
-    if answer.number != 0 {
-        return answer;
-    }
+    )?;
     let row = tables::node_row(words, h.graph.nodes, wide(node));
     write_palette(words, floats, h, row.skin.id, places, worlds, out);
-    answer
+    Ok(length)
 }

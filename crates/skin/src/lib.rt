@@ -3,7 +3,10 @@
 // floats a node.
 #![tactic(auto)]
 
-use tables::SkeletonRow;
+ghost use Rattle.std.specs.Prelude.{◌≡◌};
+ghost use Rattle.skin.specs.Calls.{answer_of};
+
+use refusals::Refusal;
 
 mod calls;
 mod palette;
@@ -12,16 +15,9 @@ mod weights;
 
 pub use calls::joint_matrices_with;
 pub use palette::{palette_count, write_palette};
-pub use weights::{effective_morph_weights, has_mesh, row_has_mesh, weights_number, weights_of};
+pub use weights::{check_weights, effective_morph_weights, has_mesh, row_has_mesh, weights_of};
 
-// How many joint matrices a palette has, if there is one.
-#[derive(Clone, Copy)]
-pub enum Joints {
-    Count(usize),
-    Nothing,
-}
-
-// A refusal number, or 0, and how many floats were written.
+// A refusal number, or 0, and how many floats were written: what a C function answers.
 #[repr(C)]
 #[derive(Clone, Copy)]
 pub struct Answer {
@@ -29,9 +25,16 @@ pub struct Answer {
     pub length: usize,
 }
 
-// The skeleton of a skin, if both ids name something.
-#[derive(Clone, Copy)]
-pub(crate) enum Bound {
-    Skeleton(SkeletonRow),
-    Nothing,
+impl From<Result<usize, Refusal>> for Answer {
+    ghost from_gives = { λ r a. a ≡ answer_of r };
+
+    fn from(r: Result<usize, Refusal>) -> Answer {
+        match r {
+            Ok(length) => Answer { number: 0, length },
+            Err(e) => Answer {
+                number: u32::from(e),
+                length: 0,
+            },
+        }
+    }
 }

@@ -8,7 +8,6 @@ ghost use Rattle.worlds.specs.Slots.{world_in};
 ghost use Rattle.skin.specs.Palette.{has_world, skeleton_in, bind_in, palette_in, laid_out, Counted, Laid};
 
 use crate::skeletons::skeleton_of;
-use crate::{Bound, Joints};
 use scene::Mat4;
 use skin_roots::wide;
 use tables::Header;
@@ -30,12 +29,10 @@ fn is_placed(j: u32, n: usize, places: &[u32]) -> bool
 fn all_placed(joints: &[u32], n: usize, places: &[u32]) -> bool
     ensures { result ≡ every (has_world n places.now) joints.now }
 {
-    let mut i = 0;
-    while i < joints.len() {
+    for i in 0..joints.len() {
         if !is_placed(joints[i], n, places) {
             return false;
         }
-        i += 1;
     }
     true
 }
@@ -56,18 +53,24 @@ fn is_whole(joints: &[u32], binds: &[f32], n: usize, places: &[u32]) -> bool
 
 // How many joint matrices the palette of a skin has, with the codes of the nodes' places; it does not hang on the
 // worlds.
-pub fn palette_count(words: &[u32], floats: &[f32], h: Header, skin: u32, places: &[u32]) -> Joints
+pub fn palette_count(
+    words: &[u32],
+    floats: &[f32],
+    h: Header,
+    skin: u32,
+    places: &[u32],
+) -> Option<usize>
     ensures { Counted words.now floats.now h skin places.now result }
 {
-    let Bound::Skeleton(row) = skeleton_of(words, h, skin) else {
-        return Joints::Nothing;
+    let Some(row) = skeleton_of(words, h, skin) else {
+        return None;
     };
     let joints = tables::words_in(words, row.joints, 1);
     let binds = tables::floats_in(floats, row.inverse_binds, 16);
     if is_whole(joints, binds, h.graph.nodes.count, places) {
-        return Joints::Count(joints.len());
+        return Some(joints.len());
     }
-    Joints::Nothing
+    None
 }
 
 // The inverse bind matrix at `at`; the identity where none are given.
@@ -94,12 +97,10 @@ fn write_joints(joints: &[u32], binds: &[f32], worlds: &[f32], out: &mut [f32])
         (palette_in joints.now binds.now worlds.now)
         ++ drop (length joints.now * 16) out.old }
 {
-    let mut t = 0;
-    while t < joints.len() {
+    for t in 0..joints.len() {
         let at = t * 16;
         let m = joint_matrix(joints[t], worlds, binds, at);
         scene::store(out, at, m);
-        t += 1;
     }
 }
 
@@ -131,7 +132,7 @@ pub fn write_palette(
     ensures { Laid words.now floats.now h skin places.now
         worlds.now (change out) }
 {
-    let Bound::Skeleton(row) = skeleton_of(words, h, skin) else {
+    let Some(row) = skeleton_of(words, h, skin) else {
         return;
     };
     let joints = tables::words_in(words, row.joints, 1);

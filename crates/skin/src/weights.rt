@@ -1,8 +1,9 @@
 ghost use Rattle.std.specs.Prelude.{◌≡◌};
+ghost use Rattle.refusals.specs.Drawn.{number_drawn};
 ghost use Rattle.checks.specs.Drawn.{scene_lent};
 ghost use Rattle.skin.specs.Weights.{names_mesh, Meshed, Effective, weights_number_for, weights_for};
 
-use refusals::NO_SUCH_NODE;
+use refusals::Refusal;
 use skin_roots::wide;
 use tables::{Header, MeshRow, NodeRow};
 
@@ -47,25 +48,23 @@ pub fn has_mesh(words: &[u32], h: Header, node: u32) -> bool
     row_has_mesh(tables::node_row(words, nodes, i), h)
 }
 
-// The number of a call for the weights of a node's mesh.
-pub fn weights_number(
+// What a call for the weights of a node's mesh draws.
+pub fn check_weights(
     words: &[u32],
     floats: &[f32],
     node_weights: &[f32],
     mesh_weights: &[f32],
     h: Header,
     node: u32,
-) -> u32
-    ensures { result ≡ weights_number_for (scene_lent words floats node_weights mesh_weights h) node }
+) -> Result<(), Refusal>
+    ensures { number_drawn result
+        ≡ weights_number_for (scene_lent words floats node_weights mesh_weights h) node }
 {
-    let drawn = checks::tables_number(words, floats, node_weights, mesh_weights, h);
-    if drawn != 0 {
-        return drawn;
-    }
+    checks::check_tables(words, floats, node_weights, mesh_weights, h)?;
     if has_mesh(words, h, node) {
-        return 0;
+        return Ok(());
     }
-    NO_SUCH_NODE
+    Err(Refusal::NoSuchNode)
 }
 
 // The weights that a node's mesh is blended with, where they lie; the empty part where the call is refused.
@@ -79,7 +78,7 @@ pub fn effective_morph_weights<'a>(
 ) -> &'a [f32]
     ensures { result.now ≡ weights_for (scene_lent words floats node_weights mesh_weights h) node }
 {
-    if weights_number(words, floats, node_weights, mesh_weights, h, node) != 0 {
+    if check_weights(words, floats, node_weights, mesh_weights, h, node).is_err() {
         return &node_weights[0..0];
     }
     let row = tables::node_row(words, h.graph.nodes, wide(node));

@@ -27,7 +27,7 @@ pub extern "C" fn mesh3d_joint_matrices_floats(
     ensures { Answered (scene_lent words floats node_weights mesh_weights header) node places.now
         worlds.now (change out) result }
 {
-    skin::joint_matrices_with(
+    Answer::from(skin::joint_matrices_with(
         words,
         floats,
         node_weights,
@@ -37,7 +37,7 @@ pub extern "C" fn mesh3d_joint_matrices_floats(
         places,
         worlds,
         out,
-    )
+    ))
 }
 
 // The root of a skin. Answers 1, 2, 11 or 0, and the node.
@@ -52,7 +52,7 @@ pub extern "C" fn mesh3d_skin_root(
 ) -> Root
     ensures { RootAnswered (scene_lent words floats node_weights mesh_weights header) skin result }
 {
-    skin_roots::skin_root(words, floats, node_weights, mesh_weights, header, skin)
+    Root::from(skin_roots::skin_root(words, floats, node_weights, mesh_weights, header, skin))
 }
 
 // Copies the weights that a node's mesh is blended with to the start of `out`. Answers 1, 2, 7, 10 or 0, and how many
@@ -69,7 +69,7 @@ pub extern "C" fn mesh3d_effective_weights_floats<'a>(
 ) -> Answer
     ensures { Weighed (scene_lent words floats node_weights mesh_weights header) node out result }
 {
-    let number = skin::weights_number(words, floats, node_weights, mesh_weights, header, node);
+    let drawn = skin::check_weights(words, floats, node_weights, mesh_weights, header, node);
     let weights = skin::effective_morph_weights(
         words,
         floats,
@@ -78,9 +78,5 @@ pub extern "C" fn mesh3d_effective_weights_floats<'a>(
         header,
         node,
     );
-    let copied = outputs::copy_out(number, weights, out);
-    Answer {
-        number: copied.number,
-        length: copied.count,
-    }
+    Answer::from(outputs::copy_out(drawn, weights, out))
 }

@@ -3,10 +3,8 @@
 ghost use Rattle.std.specs.Prelude.{◌≡◌, ◌+◌, ◌≤◌, ◌<◌, eqb, length, get_or};
 ghost use Rattle.model.specs.Limits.{node_limit};
 ghost use Rattle.model.specs.Lists.{foldl, first_that};
-ghost use Rattle.tables.specs.Tags.{named_of};
+ghost use Rattle.tables.specs.Tags.{option_of};
 ghost use Rattle.skin_roots.specs.Lines.{code_above, line_in, count_one, Leading};
-
-use tables::Named;
 
 pub fn wide(x: u32) -> usize
     ensures { (result ≡ x) × (result < 4294967296) }
@@ -39,7 +37,7 @@ fn count_one(counts: &mut [usize], a: usize, t: usize)
     }
 }
 
-// Counts the nodes of the line of joint t.
+// Counts the nodes of the line of joint t: a `while`, since it goes up from node to node.
 fn count_line(codes: &[u32], joint: u32, t: usize, counts: &mut [usize])
     requires { (length codes.now ≤ node_limit) × (joint < node_limit) × (t < 18446744073709551615) }
     ensures { counts.new ≡ foldl (count_one t) counts.old
@@ -62,10 +60,8 @@ pub(crate) fn count_lines(codes: &[u32], joints: &[u32], counts: &mut [usize])
     ensures { Leading codes.now joints.now (length joints.now)
         counts.new }
 {
-    let mut t = 0;
-    while t < joints.len() {
+    for t in 0..joints.len() {
         count_line(codes, joints[t], t, counts);
-        t += 1;
     }
 }
 
@@ -79,10 +75,10 @@ fn stands_at(counts: &[usize], a: usize, m: usize) -> bool
     m == 0
 }
 
-// The first node of a line that is counted m times.
-pub(crate) fn first_counted(codes: &[u32], joint: u32, counts: &[usize], m: usize) -> Named
+// The first node of a line that is counted m times, from node to node as above.
+pub(crate) fn first_counted(codes: &[u32], joint: u32, counts: &[usize], m: usize) -> Option<u32>
     requires { (length codes.now ≤ node_limit) × (joint < node_limit) }
-    ensures { named_of result ≡ first_that (λ a. eqb (get_or counts.now a 0) m)
+    ensures { option_of result ≡ first_that (λ a. eqb (get_or counts.now a 0) m)
         (line_in codes.now joint) }
 {
     let mut left = codes.len() + 1;
@@ -91,10 +87,10 @@ pub(crate) fn first_counted(codes: &[u32], joint: u32, counts: &[usize], m: usiz
         let id = code - 3;
         let a = wide(id);
         if stands_at(counts, a, m) {
-            return Named::Id(id);
+            return Some(id);
         }
         left -= 1;
         code = above(codes, a, left);
     }
-    Named::Nothing
+    None
 }

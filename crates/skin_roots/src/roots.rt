@@ -2,40 +2,37 @@ ghost use Rattle.std.specs.Prelude.{◌≡◌, ◌≤◌, ltb, length};
 ghost use Rattle.std.proofs.Math.Option.{none, some};
 ghost use Rattle.model.specs.Limits.{node_limit};
 ghost use Rattle.model.specs.Lists.{pick, every};
-ghost use Rattle.tables.specs.Tags.{named_of};
+ghost use Rattle.tables.specs.Tags.{option_of};
 ghost use Rattle.checks.specs.Drawn.{scene_lent};
 ghost use Rattle.skin_roots.specs.Lines.{Inside, common_in};
-ghost use Rattle.skin_roots.specs.Roots.{Rooted, RootAnswered};
+ghost use Rattle.skin_roots.specs.Roots.{Rooted, answer_of, RootAnswered};
 
-use crate::Root;
 use crate::lines::{count_lines, first_counted, wide};
-use refusals::{NO_COMMON_ROOT, NODE_LIMIT};
-use tables::{Header, Named};
+use refusals::{NODE_LIMIT, Refusal};
+use tables::Header;
 
 // Whether every joint is one of n nodes.
 fn all_nodes(joints: &[u32], n: usize) -> bool
     ensures { result ≡ every (λ j. ltb j n) joints.now }
 {
-    let mut i = 0;
-    while i < joints.len() {
+    for i in 0..joints.len() {
         if n <= wide(joints[i]) {
             return false;
         }
-        i += 1;
     }
     true
 }
 
 // The nearest node that is on the lines of all joints.
-fn common_root(codes: &[u32], joints: &[u32]) -> Named
+fn common_root(codes: &[u32], joints: &[u32]) -> Option<u32>
     requires { (length codes.now ≤ node_limit) × Inside codes.now }
-    ensures { named_of result ≡ common_in codes.now joints.now }
+    ensures { option_of result ≡ common_in codes.now joints.now }
 {
     if joints.len() == 0 {
-        return Named::Nothing;
+        return None;
     }
     if !all_nodes(joints, codes.len()) {
-        return Named::Nothing;
+        return None;
     }
     let mut counts = [0usize; NODE_LIMIT];
     count_lines(codes, &joints[1..], &mut counts);
@@ -43,17 +40,17 @@ fn common_root(codes: &[u32], joints: &[u32]) -> Named
 }
 
 // One of n nodes, or nothing.
-fn in_range(id: u32, n: usize) -> Named
-    ensures { named_of result ≡ pick (ltb id n) (some id) none }
+fn in_range(id: u32, n: usize) -> Option<u32>
+    ensures { option_of result ≡ pick (ltb id n) (some id) none }
 {
     if wide(id) < n {
-        return Named::Id(id);
+        return Some(id);
     }
-    Named::Nothing
+    None
 }
 
 // The root of a skin, with the codes of all nodes' marks. A root that is named stands without a look at the joints.
-fn root_of(words: &[u32], h: Header, skin: u32, codes: &[u32]) -> Named
+fn root_of(words: &[u32], h: Header, skin: u32, codes: &[u32]) -> Option<u32>
     requires { (length codes.now ≤ node_limit) × Inside codes.now
         × (length codes.now ≡ h.graph.nodes.count) }
     ensures { Rooted words.now h skin codes.now result }
@@ -61,7 +58,7 @@ fn root_of(words: &[u32], h: Header, skin: u32, codes: &[u32]) -> Named
     let skins = h.skins;
     let k = wide(skin);
     if skins.skins.count <= k {
-        return Named::Nothing;
+        return None;
     }
     let row = tables::skin_row(words, skins.skins, k);
     if row.root.mark != 0 {
@@ -69,7 +66,7 @@ fn root_of(words: &[u32], h: Header, skin: u32, codes: &[u32]) -> Named
     }
     let b = wide(row.skeleton);
     if skins.skeletons.count <= b {
-        return Named::Nothing;
+        return None;
     }
     let bones = tables::skeleton_row(words, skins.skeletons, b);
     common_root(codes, tables::words_in(words, bones.joints, 1))
@@ -83,20 +80,14 @@ pub fn skin_root(
     mesh_weights: &[f32],
     h: Header,
     skin: u32,
-) -> Root
-    ensures { RootAnswered (scene_lent words floats node_weights mesh_weights h) skin result }
+) -> Result<u32, Refusal>
+    ensures { RootAnswered (scene_lent words floats node_weights mesh_weights h) skin (answer_of result) }
 {
     let mut marks = [0u32; NODE_LIMIT];
-    let number = graph::parents(words, floats, node_weights, mesh_weights, h, &mut marks);
-    if number != 0 {
-        return Root { number, node: 0 };
-    }
+    graph::parents(words, floats, node_weights, mesh_weights, h, &mut marks)?;
     let n = h.graph.nodes.count;
     match root_of(words, h, skin, &marks[..n]) {
-        Named::Id(node) => Root { number: 0, node },
-        Named::Nothing => Root {
-            number: NO_COMMON_ROOT,
-            node: 0,
-        },
+        Some(node) => Ok(node),
+        None => Err(Refusal::NoCommonRoot),
     }
 }

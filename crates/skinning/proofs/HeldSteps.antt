@@ -1,7 +1,7 @@
 -- Sixteen vertices whose directions are held back, one by one. Assumes nothing.
 use mathlib.Core.Path.{◌≡◌, refl, sym, ap, subst, ◌∙◌}
 use mathlib.Core.Bool.{Bool, true, false, true≢false, ◌||◌}
-use mathlib.Core.Option.{Option, none, some}
+use mathlib.Core.Option.{Option, some}
 use mathlib.Core.List.{List}
 use Prim.Native.Nat.{ℕ, ◌+◌, ◌*◌, ◌/◌, ◌≤◌}
 use native.Mathlib.Omega.{arith}
@@ -14,13 +14,11 @@ use Rattle.model.specs.Vector.{Vector}
 use Rattle.model.specs.Matrix.{Matrix, linear, turned, determinant, inverse_transpose}
 use Rattle.model.specs.Vertices.{by_matrix, affine_point, turned_normal, turned_tangent, joint_matrix}
 use Rattle.model.proofs.Rowwise.{row-length}
-use Rattle.scene.specs.Values.{mat3, linear_of}
+use Rattle.scene.specs.Values.{mat3, linear_of, matrix_of}
 use Rattle.scene.specs.declared.Mat3.{Mat3}
-use Rattle.scene.specs.declared.Linear.{Linear}
-use Rattle.scene.specs.declared.Linear.TheVariants as linear
-use Rattle.vertex_rows.specs.declared.influences.Blend.{Blend}
+use Rattle.scene.specs.declared.Mat4.{Mat4}
+use Rattle.std.proofs.Common as rust
 use Rattle.vertex_rows.specs.Rows.{flipped, row_changed}
-use Rattle.vertex_rows.specs.Blending.{blended}
 use Rattle.transform.specs.Blocks.{unit_over, rows_from}
 use Rattle.skinning.specs.declared.holding.Whole.{Whole}
 use Rattle.skinning.specs.Moved.{MovedFrom}
@@ -37,15 +35,15 @@ pub held-not : (whole : Bool) (i : ℕ) (x : Vector) (l : List Float) → whole 
 held-not whole i x l f = record { stored = λ t. absurd (true≢false (sym t ∙ f)) }
 
 -- by a linear part, if there is one
-module _ (l : Linear) (v : Vector) where
-  pub direction-of : (m : Mat3) (x : Vector) → l ≡ linear.Of m → x ≡ turned (mat3 m) v → x ≡ direction_by (linear_of l) v
-  direction-of m x e p = p ∙ sym (ap (λ (y : Linear). direction_by (linear_of y) v) e)
+module _ (l : rust.Option Mat3) (v : Vector) where
+  pub direction-of : (m : Mat3) (x : Vector) → l ≡ rust.Some m → x ≡ turned (mat3 m) v → x ≡ direction_by (linear_of l) v
+  direction-of m x e p = p ∙ sym (ap (λ (y : rust.Option Mat3). direction_by (linear_of y) v) e)
 
-  pub no-direction : l ≡ linear.None → zeros ≡ direction_by (linear_of l) v
-  no-direction e = sym (ap (λ (y : Linear). direction_by (linear_of y) v) e)
+  pub no-direction : l ≡ rust.None → zeros ≡ direction_by (linear_of l) v
+  no-direction e = sym (ap (λ (y : rust.Option Mat3). direction_by (linear_of y) v) e)
 
 -- a normal by the linear part l
-pub held-normal : (whole : Bool) (m : Matrix) (normals : List Float) (v i : ℕ) (lent left : List Float) (l : Linear) (n d : Vector) → linear_of l ≡ inverse_transpose m → n ≡ row 3 normals v → d ≡ direction_by (linear_of l) n
+pub held-normal : (whole : Bool) (m : Matrix) (normals : List Float) (v i : ℕ) (lent left : List Float) (l : rust.Option Mat3) (n d : Vector) → linear_of l ≡ inverse_transpose m → n ≡ row 3 normals v → d ≡ direction_by (linear_of l) n
     → left ≡ paste lent (i * 3) d 3 → HeldOne whole i (direction_by (inverse_transpose m) (row 3 normals v)) lent left
 held-normal whole m normals v i lent left l n d q p r e = record { stored = λ _. e ∙ ap (λ (x : Vector). paste lent (i * 3) x 3) (r ∙ (λ j. direction_by (q j) (p j))) }
 
@@ -53,23 +51,18 @@ pub hands : (m : Matrix) (d : Float) (v : ℕ) (l left : List Float) → d ≡ d
 unfolding handed
 hands m d v l left q e = e ∙ (λ j. row_changed 4 (λ x. pick (lt (q j) zero32) (flipped x) x) v l)
 
-module _ (whole : Whole) (b : Blend) (v i : ℕ) (lp ln lt dn dt : List Float) where
-  pub held_by : (p t en et : List Float) → b.any ≡ true → p ≡ row_changed 3 (affine_point b.matrix.m) v lp → Held whole (some b.matrix.m) v i ln lt t dn en dt et
-      → HeldVertex whole (blended b) v i lp p ln lt t dn en dt et
-  held_by p t en et a e h =
-      let o : some b.matrix.m ≡ blended b = sym (ap (λ (x : Bool). pick x (some b.matrix.m) none) a) in
-      record {
-        positions = e ∙ ap (λ (x : Option Matrix). row_changed 3 (by_matrix affine_point x) v lp) o;
-        directions = subst (λ (x : Option Matrix). Held whole x v i ln lt t dn en dt et) o h;
-      }
+module _ (whole : Whole) (o : rust.Option Mat4) (v i : ℕ) (lp ln lt dn dt : List Float) where
+  pub held_by : (m : Mat4) (p t en et : List Float) → o ≡ rust.Some m → p ≡ row_changed 3 (affine_point m.m) v lp → Held whole (some m.m) v i ln lt t dn en dt et
+      → HeldVertex whole (matrix_of o) v i lp p ln lt t dn en dt et
+  held_by m p t en et a e h = subst (λ (x : rust.Option Mat4). HeldVertex whole (matrix_of x) v i lp p ln lt t dn en dt et) (sym a) (record { positions = e; directions = h })
 
-  pub held_none : (en et : List Float) → b.any ≡ false → en ≡ paste dn (i * 3) zeros 3 → et ≡ paste dt (i * 3) zeros 3 → HeldVertex whole (blended b) v i lp lp ln lt lt dn en dt et
+  pub held_none : (en et : List Float) → o ≡ rust.None → en ≡ paste dn (i * 3) zeros 3 → et ≡ paste dt (i * 3) zeros 3 → HeldVertex whole (matrix_of o) v i lp lp ln lt lt dn en dt et
   held_none en et a n t =
-      let o : none ≡ blended b = sym (ap (λ (x : Bool). pick x (some b.matrix.m) none) a) in
-      record {
-        positions = row_kept 3 v lp ∙ ap (λ (x : Option Matrix). row_changed 3 (by_matrix affine_point x) v lp) o;
-        directions = subst (λ (x : Option Matrix). Held whole x v i ln lt lt dn en dt et) o (record { tangents = row_kept 4 v lt; normal = record { stored = λ _. n }; tangent = record { stored = λ _. t } });
-      }
+      subst (λ (x : rust.Option Mat4). HeldVertex whole (matrix_of x) v i lp lp ln lt lt dn en dt et) (sym a)
+      (record {
+        positions = row_kept 3 v lp;
+        directions = record { tangents = row_kept 4 v lt; normal = record { stored = λ _. n }; tangent = record { stored = λ _. t } };
+      })
 
 -- ---- vertices from k on
 module _ (palette : List Matrix) (joints : List (List ℕ)) (weights : List Vector) (whole : Whole) (k : ℕ) (lp ln lt : List Float) where

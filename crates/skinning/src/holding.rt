@@ -5,17 +5,16 @@ ghost use Rattle.std.proofs.Math.Option.{some};
 ghost use Rattle.std.proofs.Math.Seq.{paste};
 ghost use Rattle.model.specs.Lists.{pick, part, row};
 ghost use Rattle.model.specs.Matrix.{linear, turned, inverse_transpose};
-ghost use Rattle.scene.specs.Values.{vec3, linear_of};
+ghost use Rattle.scene.specs.Values.{vec3, linear_of, matrix_of};
 ghost use Rattle.vertex_rows.specs.Rows.{flipped, row_changed};
-ghost use Rattle.vertex_rows.specs.Blending.{blended};
 ghost use Rattle.transform.specs.Blocks.{unit_over, rows_from};
 ghost use Rattle.skinning.specs.Moved.{MovesFrom};
 ghost use Rattle.skinning.specs.Holding.{zeros, direction_by, Room, HoldsOne, HoldsDirections};
 ghost use Rattle.skinning.specs.Holding.{HoldsVertex, HoldsBlock};
 
-use scene::{Linear, Mat4, Vec3};
+use scene::{Mat3, Mat4, Vec3};
 use transform::put_units;
-use vertex_rows::{Blend, flip_tangent, joint_matrix, load3, move_position, store3};
+use vertex_rows::{flip_tangent, joint_matrix, load3, move_position, store3};
 
 // Whether a block has all its normals, and all its tangents. Where it has not, it has none.
 #[derive(Clone, Copy)]
@@ -32,12 +31,12 @@ struct Waiting {
 }
 
 // l times v, and zeros where there is no l: a direction with no length.
-fn direction(l: Linear, v: Vec3) -> Vec3
+fn direction(l: Option<Mat3>, v: Vec3) -> Vec3
     ensures { vec3 result ≡ direction_by (linear_of l) (vec3 v) }
 {
     match l {
-        Linear::Of(m) => scene::mul3(m, v),
-        Linear::None => Vec3 {
+        Some(m) => scene::mul3(m, v),
+        None => Vec3 {
             x: 0.0,
             y: 0.0,
             z: 0.0,
@@ -117,7 +116,7 @@ fn hold_zeros(n: &mut [f32], t: &mut [f32], i: usize)
 
 // Vertex v by its joint matrix, with its directions put at i.
 fn hold_vertex(
-    b: Blend,
+    joint: Option<Mat4>,
     whole: Whole,
     positions: &mut [f32],
     normals: &[f32],
@@ -128,10 +127,9 @@ fn hold_vertex(
     i: usize,
 )
     requires { Room whole v i normals.now tangents.old n.old t.old }
-    ensures { HoldsVertex whole (blended b) v i positions normals tangents n t }
+    ensures { HoldsVertex whole (matrix_of joint) v i positions normals tangents n t }
 {
-    if b.any {
-        let m = b.matrix;
+    if let Some(m) = joint {
         move_position(m, positions, v);
         hold_directions(m, whole, normals, tangents, v, n, t, i);
         return;
@@ -156,11 +154,10 @@ fn hold_block(
 {
     let mut n = [0.0f32; 48];
     let mut t = [0.0f32; 48];
-    let mut i = 0usize;
-    while i < 16 {
-        let b = joint_matrix(palette, joints, weights, k + i);
+    for i in 0..16 {
+        let joint = joint_matrix(palette, joints, weights, k + i);
         hold_vertex(
-            b,
+            joint,
             whole,
             positions,
             normals,
@@ -170,7 +167,6 @@ fn hold_block(
             &mut t,
             i,
         );
-        i += 1;
     }
     Waiting {
         normals: n,

@@ -28,11 +28,9 @@ fn skin_each(
     requires { k + n ≤ length positions.old / 3 }
     ensures { MovesFrom palette joints weights k n positions normals tangents }
 {
-    let mut i = 0usize;
-    while i < n {
-        let b = joint_matrix(palette, joints, weights, k + i);
-        skin_vertex(b, positions, normals, tangents, k + i);
-        i += 1;
+    for i in 0..n {
+        let joint = joint_matrix(palette, joints, weights, k + i);
+        skin_vertex(joint, positions, normals, tangents, k + i);
     }
 }
 
@@ -80,8 +78,7 @@ fn skin_blocks(
     ensures { MovesBlocks palette joints weights positions normals tangents }
 {
     let n = positions.len() / 3 / 16;
-    let mut b = 0usize;
-    while b < n {
+    for b in 0..n {
         skin_sixteen(
             palette,
             joints,
@@ -91,7 +88,6 @@ fn skin_blocks(
             tangents,
             b * 16,
         );
-        b += 1;
     }
 }
 

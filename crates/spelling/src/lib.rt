@@ -44,10 +44,8 @@ pub fn put_bytes(out: &mut [u8], at: usize, bytes: &[u8]) -> usize
     ensures { Puts bytes.now out at result }
 {
     let mut k = at;
-    let mut i = 0;
-    while i < bytes.len() {
-        k = put(out, k, bytes[i]);
-        i += 1;
+    for b in bytes {
+        k = put(out, k, *b);
     }
     k
 }
@@ -129,12 +127,10 @@ fn digits(out: &mut [u8], at: usize, base: u32, count: usize, n: u32)
     requires { (at < 0x8000_0000_0000_0001) × (count ≤ 10) × (0 < base) × (base ≤ 16) }
     ensures { out.new ≡ sets out.old at (last_digits base count n) }
 {
-    let mut k = count;
     let mut m = n;
-    while 0 < k {
-        k -= 1;
+    for k in (0..count).rev() {
         store_byte(out, at + k, letter(m % base));
-        m = m / base;
+        m /= base;
     }
 }
 
@@ -143,12 +139,10 @@ fn digits_inside(out: &mut [u8], at: usize, base: u32, count: usize, n: u32)
     requires { (at + count ≤ length out.old) × (count ≤ 10) × (0 < base) × (base ≤ 16) }
     ensures { out.new ≡ sets out.old at (last_digits base count n) }
 {
-    let mut k = count;
     let mut m = n;
-    while 0 < k {
-        k -= 1;
+    for k in (0..count).rev() {
         out[at + k] = letter(m % base);
-        m = m / base;
+        m /= base;
     }
 }
 
@@ -193,10 +187,8 @@ fn behind_numbers(at: usize, items: &[u32]) -> usize
     ensures { result ≡ behind at (items_text numbers items.now) }
 {
     let mut k = at;
-    let mut i = 0;
-    while i < items.len() {
-        k = advanced(k, places_at_once(items[i]) + 1);
-        i += 1;
+    for n in items {
+        k = advanced(k, places_at_once(*n) + 1);
     }
     k
 }
@@ -209,10 +201,8 @@ pub fn put_numbers(out: &mut [u8], at: usize, items: &[u32]) -> usize
         return behind_numbers(at, items);
     }
     let mut k = at;
-    let mut i = 0;
-    while i < items.len() {
-        k = put_item(out, k, false, items[i]);
-        i += 1;
+    for n in items {
+        k = put_item(out, k, false, *n);
     }
     k
 }
@@ -240,10 +230,8 @@ pub fn put_floats(out: &mut [u8], at: usize, items: &[f32]) -> usize
         return behind_floats(at, items.len());
     }
     let mut k = at;
-    let mut i = 0;
-    while i < items.len() {
-        k = put_item(out, k, true, float::to_bits(items[i]));
-        i += 1;
+    for x in items {
+        k = put_item(out, k, true, float::to_bits(*x));
     }
     k
 }

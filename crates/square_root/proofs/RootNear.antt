@@ -1,5 +1,5 @@
 -- The root is the nearest value, said in squares: the exact root of n / d lies between r - 1/2 and r + 1/2, r the whole number that `closest_root` gives. Assumes nothing.
-use Rattle.std.proofs.Common.{◌≡◌, ℕ, zero, suc, ◌+◌, ◌-◌, ◌*◌, ◌/◌, ◌%◌, ◌^◌, ◌<◌, ◌≤◌, false, ℤ, sym, refl, ap, ◌∙◌, subst, le_trans, le_of_eq, lt_of_lt_of_le, le_of_lt, mul-le-mul_right, mul_assoc, mul_comm, div-lt_iff_lt-mul, mul-le-mul_left, mul-pos, le-div_iff_mul-le, arith, pow_pos}
+use Rattle.std.proofs.Common.{◌≡◌, ℕ, zero, suc, ◌+◌, ◌-◌, ◌*◌, ◌/◌, ◌%◌, ◌^◌, ◌<◌, ◌≤◌, false, ℤ, sym, refl, ap, ◌∙◌, subst, le_trans, le_of_eq, le_of_lt, mul-le-mul_right, mul_assoc, mul_comm, div-lt_iff_lt-mul, mul-le-mul_left, mul-pos, le-div_iff_mul-le, arith, pow_pos}
 use Prim.Native.Nat.{compare, Ordering}
 use lib.Ieee.{Float, fin, Format, prec, low, up, down, size, nearest, units}
 use lib.Ieee.Fits.{down_pos}

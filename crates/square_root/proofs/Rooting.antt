@@ -1,15 +1,14 @@
 -- `sqrt_of` at the bit patterns of an f32 above 0: the root of a whole number of 47 or 48 digits, rounded, is the result's significand. Assumes nothing.
-use Rattle.std.proofs.Common.{◌≡◌, ℕ, zero, suc, ◌+◌, ◌-◌, ◌*◌, ◌/◌, ◌%◌, ◌^◌, ◌<◌, ◌≤◌, Bool, true, false, cond, not, T, eqb, ◌⊎◌, ℤ, pos, negsuc, sym, refl, ap, ◌∙◌, subst, inl, inr, true≢false, le_trans, le_of_eq, lt_of_lt_of_le, lt_of_le_of_lt, add-zero, le_of_lt, lt_irrefl, mul-le-mul_right, zero-lt-suc, mul_assoc, mul_comm, eq-or-lt_of_le, mul-le-mul_left, mul-lt-mul_of_pos_right, mul-pos, zero-add, zero-mul, mul-one, mul_right_comm, mul-div_cancel, mul_left_comm, arith, lit<, lit≤, pow_pos, pow_mono, pow-add, shl_lt, ne_eqb}
+use Rattle.std.proofs.Common.{◌≡◌, ℕ, zero, suc, ◌+◌, ◌-◌, ◌*◌, ◌/◌, ◌%◌, ◌^◌, ◌<◌, ◌≤◌, Bool, true, false, cond, eqb, ◌⊎◌, sym, refl, ap, ◌∙◌, subst, inl, inr, true≢false, le_trans, le_of_eq, lt_of_lt_of_le, lt_irrefl, mul-le-mul_right, mul_assoc, mul_comm, eq-or-lt_of_le, mul-le-mul_left, mul-lt-mul_of_pos_right, mul-pos, zero-add, zero-mul, mul-one, mul_right_comm, mul-div_cancel, arith, pow_pos, pow_mono, pow-add, ne_eqb}
 use Prim.Native.Nat.{compare, Ordering}
-use lib.Pow.{pow-lt}
-use lib.Ieee.{Float, nan, inf, fin, Format, prec, low, up, down, size, odd, nearest, units, binary32, of_bits, of_fields}
+use lib.Ieee.{Float, nan, inf, fin, up, down, size, odd, nearest, units, binary32, of_bits, of_fields}
 use lib.Ieee.Fits.{down_pos, nearest-le}
 use lib.Ieee.Exact.{HasValue, odd_sign}
 use lib.Ieee.Nearest.{nearest-ge}
 use Rattle.float.specs.Sqrt.{isqrt, closest_root, root_round, sqrt_of}
 use Rattle.float.specs.Patterns.{root_pattern, Rooted}
 use Rattle.float.proofs.Pack.{size_is, units-bits, signed32}
-use Rattle.square_root.proofs.Squares.{Root, isqrt-root, root_ge, root-lt, compare-times}
+use Rattle.square_root.proofs.Squares.{isqrt-root, root_ge, root-lt, compare-times}
 
 -- the rounded root of a whole number
 abbrev pub rounded : ℕ → ℕ

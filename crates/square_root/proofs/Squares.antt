@@ -1,7 +1,6 @@
 -- The largest q with q * q ≤ n: `isqrt` is it, and there is one only. Assumes nothing.
-use Rattle.std.proofs.Common.{◌≡◌, ℕ, zero, suc, ◌+◌, ◌-◌, ◌*◌, ◌/◌, ◌%◌, ◌^◌, ◌<◌, ◌≤◌, Bool, true, false, cond, not, T, leb, ◌⊎◌, sym, refl, ap, ◌∙◌, subst, inl, inr, le_trans, le_of_eq, lt_of_lt_of_le, le_of_suc-le-suc, le-add_right, lt_of_le_of_lt, le_of_lt, add_assoc, lt_irrefl, mul-le-mul_right, mul_assoc, mul_comm, add-mul, add_comm, le_antisymm, mul-le-mul_left, mul-lt-mul_of_pos_right, lt_of_not-le, mul-add, not-le_of_lt, mul_left_comm, arith, lit<, leb→le, pow_pos, pow_mono, pow-add}
+use Rattle.std.proofs.Common.{◌≡◌, ℕ, zero, suc, ◌+◌, ◌*◌, ◌/◌, ◌^◌, ◌<◌, ◌≤◌, Bool, true, false, cond, not, T, leb, refl, ap, ◌∙◌, subst, le_trans, lt_of_lt_of_le, le_of_suc-le-suc, le-add_right, mul-le-mul_right, mul_assoc, mul_comm, add-mul, le_antisymm, mul-le-mul_left, mul-lt-mul_of_pos_right, lt_of_not-le, mul-add, not-le_of_lt, mul_left_comm, arith, leb→le, pow_mono, pow-add}
 use Prim.Native.Nat.{compare, Ordering}
-use native.Mathlib.Nat.{add_left_comm}
 use lib.Dec.{nleb→lt}
 use lib.Ieee.{size, nearest}
 use lib.Ieee.Digits.{size-lt}

@@ -77,10 +77,8 @@ fn guesses(a: [f32; 16]) -> [u32; 16]
     ensures { (i : ℕ) → i < 16 → slice_index result i < 2 ^ 24 }
 {
     let mut q = [0u32; 16];
-    let mut i = 0usize;
-    while i < 16 {
+    for i in 0..16 {
         q[i] = guess(a[i]);
-        i += 1;
     }
     q
 }
@@ -104,10 +102,8 @@ fn near_roots(a: [f32; 16], q: [u32; 16]) -> u64
     ensures { 2 ^ 63 ≤ result → (i : ℕ) → i < 16 → Near (to_bits binary32 (slice_index_or a i nan)) (slice_index q i) }
 {
     let mut d: u64 = u64::MAX;
-    let mut i = 0usize;
-    while i < 16 {
+    for i in 0..16 {
         d = d & near_root(a[i], q[i]);
-        i += 1;
     }
     d
 }
@@ -129,10 +125,8 @@ fn count_outside(a: [f32; 16]) -> u32
     ensures { (result == 0) ≡ all_normal a }
 {
     let mut n: u32 = 0;
-    let mut i = 0usize;
-    while i < 16 {
+    for i in 0..16 {
         n += outside(a[i]);
-        i += 1;
     }
     n
 }
@@ -151,10 +145,8 @@ fn roots_by(a: [f32; 16], q: [u32; 16]) -> [f32; 16]
     ensures { result ≡ map (sqrt_of binary32) a }
 {
     let mut out = [0.0f32; 16];
-    let mut i = 0usize;
-    while i < 16 {
+    for i in 0..16 {
         out[i] = root_by(a[i], q[i]);
-        i += 1;
     }
     out
 }
@@ -163,10 +155,8 @@ fn one_by_one(a: [f32; 16]) -> [f32; 16]
     ensures { result ≡ map (sqrt_of binary32) a }
 {
     let mut out = [0.0f32; 16];
-    let mut i = 0usize;
-    while i < 16 {
+    for i in 0..16 {
         out[i] = sqrt(a[i]);
-        i += 1;
     }
     out
 }

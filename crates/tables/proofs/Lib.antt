@@ -3,4 +3,3 @@ pub mod WholeRecords
 pub mod Cutting
 pub mod Naming
 pub mod Decoding
-pub mod Wiped

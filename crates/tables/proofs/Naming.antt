@@ -6,11 +6,13 @@ use Prim.Native.Nat.{ℕ, zero, suc}
 use borrow.Author.Tests.{ne_eqb}
 use native.Mathlib.Omega.{arith}
 use lib.Dec.{eqb}
-use Rattle.model.specs.Lists.{pick}
+use Rattle.std.specs.Prelude as rust
+use Rattle.std.specs.Option as rust-option
+use Rattle.model.specs.Lists.{pick, is_some}
 use Rattle.model.specs.Scene as scene
 use Rattle.tracks.specs.declared.Interpolation.TheVariants as interpolation
 use Rattle.tracks.specs.declared.Kind.TheVariants as kind
-use Rattle.tables.specs.Tags.{is_marked, kind_for, interpolation_for, property_for}
+use Rattle.tables.specs.Tags.{is_marked, kind_for, interpolation_for, property_for, option_of}
 
 pub marked : (n : ℕ) → not (eqb n 0) ≡ is_marked n
 marked zero = refl
@@ -39,3 +41,8 @@ other-property zero h g k = absurd (h refl)
 other-property (suc zero) h g k = absurd (g refl)
 other-property (suc (suc zero)) h g k = absurd (k refl)
 other-property (suc (suc (suc n))) h g k = refl
+
+-- an option of the code and what it says have a value together
+pub some-alike : {A : Type 0} (o : rust.Option A) → rust-option.is_some o ≡ is_some (option_of o)
+some-alike (rust.Some x) = refl
+some-alike rust.None = refl

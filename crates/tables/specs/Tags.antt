@@ -1,5 +1,6 @@
 -- What the tags and marks of a record say. A mark is 0 for absent; a number that names nothing is over size (2), so
 -- what it reads as does not matter. Definitions only.
+use Rattle.std.specs.Prelude as rust
 use Rattle.std.specs.Prelude.{Bool, true, false, ℕ, zero, suc}
 use Rattle.std.proofs.Math.Option.{Option, none, some}
 use Rattle.model.specs.Lists.{pick}
@@ -11,8 +12,6 @@ use Rattle.tracks.specs.declared.Kind.TheVariants as kind
 use Rattle.tracks.specs.declared.Track.{Track}
 use Rattle.tables.specs.declared.Reference.{Reference}
 use Rattle.tables.specs.declared.ChannelRow.{ChannelRow}
-use Rattle.tables.specs.declared.Named.{Named}
-use Rattle.tables.specs.declared.Named.TheVariants as named
 use Rattle.tables.specs.declared.Property.{Property}
 use Rattle.tables.specs.declared.Property.TheVariants as property
 
@@ -49,9 +48,9 @@ id_of r = pick (is_marked r.mark) (some r.id) none
 
 -- ---- what the values of the code say
 
-abbrev pub named_of : Named → Option ℕ
-named_of (named.Id n) = some n
-named_of named.Nothing = none
+abbrev pub option_of : {A : Type 0} → rust.Option A → Option A
+option_of (rust.Some x) = some x
+option_of rust.None = none
 
 abbrev pub property_of : Property → scene.Property
 property_of property.Translation = scene.translation

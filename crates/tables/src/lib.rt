@@ -7,7 +7,6 @@ use tracks::Part;
 mod parts;
 mod readers;
 mod rows;
-mod wiping;
 
 pub use parts::{floats_in, words_in};
 pub use readers::{base_of, id_of, is_marked, property_of, track_of, weight_of};
@@ -15,7 +14,6 @@ pub use rows::{
     alone, channel_row, in_between_row, mesh_row, node_row, primitive_row, skeleton_row, skin_row,
     target_row,
 };
-pub use wiping::{wipe_floats, wipe_words};
 
 // The nodes and the roots.
 #[repr(C)]
@@ -126,13 +124,6 @@ pub struct SkinRow {
 pub struct SkeletonRow {
     pub joints: Part,
     pub inverse_binds: Part,
-}
-
-// What an id that may be absent names.
-#[derive(Clone, Copy)]
-pub enum Named {
-    Id(u32),
-    Nothing,
 }
 
 // What a channel drives.

@@ -1,11 +1,12 @@
 ghost use Rattle.std.specs.Prelude.{◌≡◌, length, get_or};
 ghost use Rattle.float.specs.F32.{zero32};
 ghost use Rattle.scene.specs.Values.{trs, transform_of};
-ghost use Rattle.tables.specs.Tags.{is_marked, kind_for, interpolation_for, property_for, property_of, named_of, id_of};
+ghost use Rattle.tables.specs.Tags.{is_marked, kind_for, interpolation_for, property_for, property_of, option_of};
+ghost use Rattle.tables.specs.Tags.{id_of};
 ghost use Rattle.tables.specs.Tags.{track_for};
 ghost use Rattle.tables.specs.Decoded.{parts_from, ten_in, base_of};
 
-use crate::{ChannelRow, InBetweenRow, Named, NodeRow, Property, Reference};
+use crate::{ChannelRow, InBetweenRow, NodeRow, Property, Reference};
 use scene::{Quat, Transform, Trs, Vec3};
 use tracks::{Interpolation, Kind, Track};
 
@@ -17,13 +18,13 @@ pub fn is_marked(mark: u32) -> bool
 }
 
 // What an id that may be absent names.
-pub fn id_of(r: Reference) -> Named
-    ensures { named_of result ≡ id_of r }
+pub fn id_of(r: Reference) -> Option<u32>
+    ensures { option_of result ≡ id_of r }
 {
     if r.mark == 0 {
-        return Named::Nothing;
+        return None;
     }
-    Named::Id(r.id)
+    Some(r.id)
 }
 
 fn kind_for(kind: u32) -> Kind
@@ -140,7 +141,7 @@ pub fn base_of(floats: &[f32], row: NodeRow) -> Transform
     if row.form == 0 {
         return Transform::Trs(trs_in(floats, row.base));
     }
-    Transform::Matrix(scene::entries_of(scene::load(floats, row.base)))
+    Transform::Matrix(scene::load(floats, row.base))
 }
 
 // The weight of an in-between.

@@ -4,9 +4,7 @@
 #![tactic(auto)]
 
 ghost use Rattle.std.specs.Prelude.{◌≤◌, length};
-ghost use Rattle.std.specs.Io.{ReadsAtMost};
 
-use brackets::Met;
 use std::io;
 use std::io::Read;
 
@@ -15,26 +13,17 @@ fn end_of(text: &[u8], from: usize) -> usize
     requires { from ≤ length text.now }
     ensures { (from ≤ result) × (result ≤ length text.now) }
 {
-    let mut i = from;
-    while i < text.len() {
-        if text[i] == 37 {
+    for i in from..text.len() {
+        if text[i] == b'%' {
             return i;
         }
-        i += 1;
     }
-    i
+    text.len()
 }
 
 // Whether the first n bytes of the output are the text.
 fn is_same(text: &[u8], out: &[u8], n: usize) -> bool {
-    if out.len() < n {
-        return false;
-    }
-    let met = brackets::meet_bytes(text, Met { at: 0, ok: true }, &out[..n]);
-    if met.ok {
-        return met.at == text.len();
-    }
-    false
+    n <= out.len() && text == &out[..n]
 }
 
 fn answer(out: &impl Print, text: &[u8]) -> io::Result<()> {
@@ -75,32 +64,20 @@ fn answer(out: &impl Print, text: &[u8]) -> io::Result<()> {
     println!(out)
 }
 
-// Reads until `buf` is full or the input ends, and answers how many bytes stand at its start.
-fn read_full<R: Read>(input: &mut R, buf: &mut [u8]) -> io::Result<usize>
-    ensures { ReadsAtMost result buf.new }
-{
-    let mut done = 0;
-    while done < buf.len() {
-        let n = input.read(&mut buf[done..])?;
-        if n == 0 {
-            break;
-        }
-        done += n;
-    }
-    Ok(done)
-}
-
 fn main(rt: HostRuntime) -> io::Result<()> {
     let out = rt.stdout();
-    let mut buffer = [0u8; 32768];
-    let got = read_full(&mut rt.stdin(), &mut buffer)?;
-    if got == 32768 {
+    let mut texts = Vec::new(rt.alloc());
+    rt.stdin().take(32768).read_to_end(&mut texts)?;
+    let got = texts.len();
+    if 32768 <= got {
         return println!(out; "too many texts: 32768 bytes or more");
     }
+    // A last text with no '%' goes on with zeros.
+    texts.resize(32768, 0)?;
     let mut at = 0;
     while at < got {
-        let end = end_of(&buffer, at);
-        answer(&out, &buffer[at..end])?;
+        let end = end_of(&texts, at);
+        answer(&out, &texts[at..end])?;
         at = end + 2;
     }
     Ok(())

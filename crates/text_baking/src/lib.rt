@@ -36,7 +36,7 @@ fn bake_tables<'a>(
     let mut positions = [0f32; 7281];
     let mut normals = [0f32; 7281];
     let mut tangents = [0f32; 7281];
-    let a = bake::world_mesh_at(
+    let answer = bake::world_mesh_at(
         words,
         floats,
         node_weights,
@@ -53,11 +53,13 @@ fn bake_tables<'a>(
         &mut normals,
         &mut tangents,
     );
-    if a.number != 0 {
-        return printing::put_number(out, a.number);
+    match answer {
+        Ok(put) => {
+            let n = put.lengths.positions;
+            printing::put_vertices(out, &positions[..n])
+        }
+        Err(refusal) => printing::put_number(out, u32::from(refusal)),
     }
-    let n = a.positions;
-    printing::put_vertices(out, &positions[..n])
 }
 
 // Reads a text whose tables have room for it into them, bakes what it asks for, and prints that.

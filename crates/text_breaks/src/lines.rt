@@ -15,10 +15,8 @@ pub fn line_behind(before: &[u8]) -> usize
     ensures { result ≡ line_behind before.now }
 {
     let mut line: usize = 1;
-    let mut i = 0;
-    while i < before.len() {
-        line = line_on(line, before[i]);
-        i += 1;
+    for b in before {
+        line = line_on(line, *b);
     }
     line
 }
@@ -36,10 +34,8 @@ pub fn column_behind(before: &[u8]) -> usize
     ensures { result ≡ column_behind before.now }
 {
     let mut column: usize = 1;
-    let mut i = 0;
-    while i < before.len() {
-        column = column_on(column, before[i]);
-        i += 1;
+    for b in before {
+        column = column_on(column, *b);
     }
     column
 }
@@ -61,10 +57,8 @@ pub fn spot_behind(before: &[u8]) -> Spot {
         field: 0,
         depth: 0,
     };
-    let mut i = 0;
-    while i < before.len() {
-        s = spot_on(s, i, before[i]);
-        i += 1;
+    for (i, b) in before.iter().enumerate() {
+        s = spot_on(s, i, *b);
     }
     s
 }
@@ -104,43 +98,28 @@ fn spot_on(s: Spot, i: usize, b: u8) -> Spot
 }
 
 fn is_blank(b: u8) -> bool {
-    if b == 32 {
-        return true;
-    }
-    b == 9
+    b == b' ' || b == b'\t'
 }
 
 // Whether there are blanks from a place on, and nothing else, up to the line's end or the end of the text.
 pub fn trailing_blanks(text: &[u8], at: usize) -> bool {
-    let mut i = at;
-    while i < text.len() {
+    for i in at..text.len() {
         let b = text[i];
-        if b == 10 {
-            return at < i;
-        }
-        if b == 13 {
+        if b == b'\n' || b == b'\r' {
             return at < i;
         }
         if !is_blank(b) {
             return false;
         }
-        i += 1;
     }
-    at < i
+    at < text.len()
 }
 
 // How many spaces there are in a part of a text.
 pub fn spaces(text: &[u8], from: usize, to: usize) -> usize {
-    let mut n: usize = 0;
-    let mut i = from;
-    while i < text.len() {
-        if to <= i {
-            return n;
-        }
-        if text[i] == 32 {
-            n += 1;
-        }
-        i += 1;
-    }
-    n
+    text.iter()
+        .take(to)
+        .skip(from)
+        .filter(|b| **b == b' ')
+        .count()
 }

@@ -3,7 +3,6 @@
 #![tactic(auto)]
 
 ghost use Rattle.std.specs.Prelude.{◌≤◌};
-ghost use Rattle.std.specs.Io.{ReadsAtMost};
 
 use lines::Spot;
 use std::io;
@@ -17,15 +16,13 @@ mod words;
 fn kind_of(code: u64) -> usize
     ensures { result ≤ 9 }
 {
-    let mut k = 0;
-    while k < 9 {
+    for k in 0..9 {
         let title = scene_schema::title(k);
         if title.code == code {
             return k;
         }
-        k += 1;
     }
-    k
+    9
 }
 
 // The slot of kind k with a name of this code, 16 where there is none.
@@ -33,15 +30,13 @@ fn slot_of(k: usize, code: u64) -> usize
     requires { k ≤ 9 }
     ensures { result ≤ 16 }
 {
-    let mut j = 0;
-    while j < 16 {
+    for j in 0..16 {
         let name = scene_schema::slot_name(16 * k + j);
         if name.code == code {
             return j;
         }
-        j += 1;
     }
-    j
+    16
 }
 
 // What mail does to a text, and files that end too early.
@@ -148,18 +143,12 @@ fn print_expected(out: &impl Print, text: &[u8], at: usize, s: Spot) -> io::Resu
     print_items(out, k, slot_of(k, v.value), lines::spaces(text, v.next, at))
 }
 
-fn least(a: usize, b: usize) -> usize
-    ensures { result ≤ b }
-{
-    if a < b { a } else { b }
-}
-
 fn report(out: &impl Print, text: &[u8]) -> io::Result<()> {
     let found = scene_text::find_break(text);
     if found.number == 0 {
         return print(out, b"the text has a reading\n");
     }
-    let at = least(found.at, text.len());
+    let at = found.at.min(text.len());
     let before = &text[..at];
     print(out, b"line ")?;
     print_number(out, lines::line_behind(before))?;
@@ -172,30 +161,15 @@ fn report(out: &impl Print, text: &[u8]) -> io::Result<()> {
     print(out, b"\n")
 }
 
-// Reads until `buf` is full or the input ends, and answers how many bytes stand at its start.
-fn read_full<R: Read>(input: &mut R, buf: &mut [u8]) -> io::Result<usize>
-    ensures { ReadsAtMost result buf.new }
-{
-    let mut done = 0;
-    while done < buf.len() {
-        let n = input.read(&mut buf[done..])?;
-        if n == 0 {
-            break;
-        }
-        done += n;
-    }
-    Ok(done)
-}
-
 fn main(rt: HostRuntime) -> io::Result<()> {
     let out = rt.stdout();
-    let mut buffer = [0u8; 65537];
-    let got = read_full(&mut rt.stdin(), &mut buffer)?;
-    if 65536 < got {
+    let mut text = Vec::new(rt.alloc());
+    rt.stdin().take(65537).read_to_end(&mut text)?;
+    if 65536 < text.len() {
         return print(
             &out,
             b"the text has more than 65536 bytes: too long for this program\n",
         );
     }
-    report(&out, &buffer[..got])
+    report(&out, &text)
 }

@@ -15,12 +15,10 @@ pub fn print_number(out: &impl Print, n: usize) -> io::Result<()> {
 // So many letters, the first one lowest.
 fn print_letters(out: &impl Print, letters: usize, word: u64) -> io::Result<()> {
     let mut v = word;
-    let mut left = letters;
-    while 0 < left {
+    for _ in 0..letters {
         let letter = [(v % 256) as u8];
         print(out, &letter)?;
-        v = v / 256;
-        left -= 1;
+        v /= 256;
     }
     Ok(())
 }
@@ -36,13 +34,11 @@ pub fn print_name(out: &impl Print, name: Name) -> io::Result<()> {
 
 // The titles from kind k on.
 pub fn print_titles(out: &impl Print, k: usize) -> io::Result<()> {
-    let mut i = k;
-    while i < 9 {
+    for i in k..9 {
         if k < i {
             print(out, b", ")?;
         }
         print_name(out, scene_schema::title(i))?;
-        i += 1;
     }
     Ok(())
 }
@@ -53,13 +49,8 @@ pub fn print_fields(out: &impl Print, k: usize) -> io::Result<()>
 {
     let n = scene_schema::slots(k);
     let mut left: usize = 0;
-    let mut j = 0;
-    while j < 16 {
-        if n <= j {
-            return Ok(());
-        }
+    for j in 0..n {
         left = print_field(out, 16 * k + j, j, left)?;
-        j += 1;
     }
     Ok(())
 }

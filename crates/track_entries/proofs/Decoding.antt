@@ -1,7 +1,7 @@
 -- What is drawn before a table is decoded, and the answers with the room that it is decoded into. Assumes nothing.
 use mathlib.Core.Path.{◌≡◌, refl, sym, ap, ◌∙◌, subst}
 use mathlib.Core.Bool.{Bool, true, false, not, ◌&&◌}
-use mathlib.Core.List.{List, ◌++◌}
+use mathlib.Core.List.{List, [], ◌++◌}
 use Prim.Native.Nat.{ℕ, zero, suc, ◌/◌, ◌≤◌, ◌<◌}
 use native.Mathlib.Omega.{arith}
 use borrow.Author.Tests.{lt-ltb, le-ltb, ltb-false}
@@ -24,6 +24,11 @@ use Rattle.animation.specs.Values.{answer_of}
 use Rattle.tracks.specs.Tracks.{keys_fit, values_fit, track_in, table_number}
 use Rattle.tracks.specs.declared.Track.{Track}
 use Rattle.tracks.proofs.Drawn.{clear}
+use Rattle.std.proofs.Common.{Result, Ok, Err}
+use Rattle.refusals.specs.declared.Refusal.{Refusal}
+use Rattle.refusals.proofs.Told.{above-none}
+use Rattle.refusals.specs.Drawn.{number_of, number_drawn}
+use Rattle.animation.specs.declared.SampledValue.{SampledValue}
 use Rattle.animation.specs.declared.SampledValue.TheVariants as sampled_value
 use Rattle.byte_tracks.proofs.WeightRoom.{roomy}
 use Rattle.track_entries.specs.Tracks.{sampled_in}
@@ -128,21 +133,32 @@ all_read floats lent left n w h =
     w.slice ∙ (λ j. take (full j) floats ++ drop (full j) lent)
     ∙ ap (λ (l : List Float). l ++ drop (length floats) lent) (take_all (length floats) floats (omega arith))
 
-pub refused-with : (tr : scene.Track) (time : Float) (lent : List Float) (g n : ℕ) → g ≡ suc n
-    → answer_of (sampled_value.Refused (suc n)) lent ≡ sampled g tr time lent
+-- an answer with a number, and nothing beside it
+no-value : (tr : scene.Track) (time : Float) (lent : List Float) (k : ℕ) → 0 < k
+    → ◌≡◌ {A = Sampled} (record { number = k; value = []; weights = 0; slice = lent }) (sampled_or k tr time lent)
+no-value tr time lent zero h = absurd (omega (arith, h))
+no-value tr time lent (suc n) h = refl
+
+pub refused-with : (tr : scene.Track) (time : Float) (lent : List Float) (g : ℕ) (r : Refusal) → number_of r ≡ g
+    → answer_of (Err r) lent ≡ sampled g tr time lent
 unfolding sampled
-refused-with tr time lent g n e =
-    ap (λ (k : ℕ). sampled_or k tr time lent) (sym (sample-drawn tr time (length lent) (suc n) (omega arith)))
-    ∙ ap (λ (k : ℕ). sampled k tr time lent) (sym e)
+refused-with tr time lent g r e =
+    no-value tr time lent (number_of r) (above-none r)
+    ∙ ap (λ (k : ℕ). sampled_or k tr time lent) (sym (sample-drawn tr time (length lent) (number_of r) (above-none r)))
+    ∙ ap (λ (k : ℕ). sampled k tr time lent) e
+
+-- room that is not decoded into
+undecoded : (floats room : List Float) (k : ℕ) → 0 < k → room ≡ decoded_or k floats room
+undecoded floats room zero h = absurd (omega (arith, h))
+undecoded floats room (suc n) h = refl
 
 -- one of the numbers as far as 6
-pub refused : (tr : scene.Track) (time : Float) (floats room lent : List Float) (g k : ℕ) → k ≡ g → (k ≡ 0 → ⊥)
-    → ◌≡◌ {A = Decoded} (record { answer = answer_of (sampled_value.Refused k) lent; room = room })
+pub refused : (tr : scene.Track) (time : Float) (floats room lent : List Float) (g : ℕ) (r : Refusal) → number_of r ≡ g
+    → ◌≡◌ {A = Decoded} (record { answer = answer_of (Err r) lent; room = room })
     (record { answer = sampled g tr time lent; room = decoded_or g floats room })
-refused tr time floats room lent g zero e d = absurd (d refl)
-refused tr time floats room lent g (suc n) e d = λ j. record {
-  answer = refused-with tr time lent g n (sym e) j;
-  room = decoded_or (e j) floats room;
+refused tr time floats room lent g r e = λ j. record {
+  answer = refused-with tr time lent g r e j;
+  room = (undecoded floats room (number_of r) (above-none r) ∙ ap (λ (k : ℕ). decoded_or k floats room) e) j;
 }
 
 -- none of them

@@ -20,6 +20,10 @@ use Rattle.scene.specs.declared.Quat.{Quat}
 use Rattle.animation.specs.Values.{answer_of}
 use Rattle.tracks.specs.Tracks.{keys_fit, values_fit}
 use Rattle.tracks.specs.declared.Track.{Track}
+use Rattle.std.proofs.Common.{Result, Ok, Err}
+use Rattle.refusals.specs.declared.Refusal.{Refusal}
+use Rattle.refusals.specs.declared.Refusal.TheVariants.{OverLimit}
+use Rattle.refusals.specs.Drawn.{number_of, number_drawn}
 use Rattle.animation.specs.declared.SampledValue.{SampledValue}
 use Rattle.animation.specs.declared.SampledValue.TheVariants as sampled_value
 use Rattle.tables.specs.declared.ChannelRow.{ChannelRow}
@@ -34,29 +38,29 @@ use Rattle.track_entries.proofs.Rooms.{Alike, weights-fit, sampled-alike}
 
 -- ---- an answer, by its variant
 
-counted : (weights : List Float) (a : SampledValue) (m : ℕ) → a ≡ sampled_value.Scalar m
+counted : (weights : List Float) (a : Result SampledValue Refusal) (m : ℕ) → a ≡ Ok (sampled_value.Scalar m)
     → (answer_of a weights).weights ≡ m
-counted weights a m e = ap (λ (x : SampledValue). (answer_of x weights).weights) e
+counted weights a m e = ap (λ (x : Result SampledValue Refusal). (answer_of x weights).weights) e
 
-pub weights-inside : (weights : List Float) (a : SampledValue) (m : ℕ) → a ≡ sampled_value.Scalar m
+pub weights-inside : (weights : List Float) (a : Result SampledValue Refusal) (m : ℕ) → a ≡ Ok (sampled_value.Scalar m)
     → (answer_of a weights).weights ≤ length weights → m ≤ length weights
 weights-inside weights a m e h = omega (arith, counted weights a m e)
 
-module _ (weights : List Float) (a : SampledValue) (lent_value lent_out : List ℕ) where
-  from : (b : SampledValue) (left_value left_out : List ℕ) (told : Told) → a ≡ b
+module _ (weights : List Float) (a : Result SampledValue Refusal) (lent_value lent_out : List ℕ) where
+  from : (b : Result SampledValue Refusal) (left_value left_out : List ℕ) (told : Told) → a ≡ b
       → DeliveredBytes (answer_of b weights) lent_value left_value lent_out left_out told
       → DeliveredBytes (answer_of a weights) lent_value left_value lent_out left_out told
   from b left_value left_out told e d =
-      subst (λ (x : SampledValue). DeliveredBytes (answer_of x weights) lent_value left_value lent_out left_out told)
+      subst (λ (x : Result SampledValue Refusal). DeliveredBytes (answer_of x weights) lent_value left_value lent_out left_out told)
       (sym e) d
 
   module _ (left : List ℕ) (n : ℕ) where
-    pub wrote-vec3 : (v : Vec3) → a ≡ sampled_value.Vec3 v → length lent_value ≡ 16
+    pub wrote-vec3 : (v : Vec3) → a ≡ Ok (sampled_value.Vec3 v) → length lent_value ≡ 16
         → WroteBytes (vec3 v) lent_value left n
         → DeliveredBytes (answer_of a weights) lent_value left lent_out lent_out (record { number = 0; count = 0 })
     unfolding written_as
     wrote-vec3 v e l w =
-        from (sampled_value.Vec3 v) left lent_out _ e
+        from (Ok (sampled_value.Vec3 v)) left lent_out _ e
         (record {
           number = refl;
           count = refl;
@@ -64,12 +68,12 @@ module _ (weights : List Float) (a : SampledValue) (lent_value lent_out : List �
           weights = refl;
         })
 
-    pub wrote-quat : (q : Quat) → a ≡ sampled_value.Quat q → length lent_value ≡ 16
+    pub wrote-quat : (q : Quat) → a ≡ Ok (sampled_value.Quat q) → length lent_value ≡ 16
         → WroteBytes (quat q) lent_value left n
         → DeliveredBytes (answer_of a weights) lent_value left lent_out lent_out (record { number = 0; count = 0 })
     unfolding written_as
     wrote-quat q e l w =
-        from (sampled_value.Quat q) left lent_out _ e
+        from (Ok (sampled_value.Quat q)) left lent_out _ e
         (record {
           number = refl;
           count = refl;
@@ -77,7 +81,7 @@ module _ (weights : List Float) (a : SampledValue) (lent_value lent_out : List �
           weights = refl;
         })
 
-    pub wrote-weights : (m : ℕ) → a ≡ sampled_value.Scalar m
+    pub wrote-weights : (m : ℕ) → a ≡ Ok (sampled_value.Scalar m)
         → ((answer_of a weights).weights ≤ length weights) × (4 * (answer_of a weights).weights ≤ length lent_out)
         → WroteBytes (take m weights) lent_out left n
         → DeliveredBytes (answer_of a weights) lent_value lent_value lent_out left (record { number = 0; count = n })
@@ -85,7 +89,7 @@ module _ (weights : List Float) (a : SampledValue) (lent_value lent_out : List �
     wrote-weights m e fit w =
         let k = length-take-le m weights (weights-inside weights a m e fit.0) in
         let all = all-written (take m weights) lent_out left n w (omega (arith, counted weights a m e, fit.1, k)) in
-        from (sampled_value.Scalar m) lent_value left _ e
+        from (Ok (sampled_value.Scalar m)) lent_value left _ e
         (record {
           number = refl;
           count = all.0 ∙ k;
@@ -93,11 +97,11 @@ module _ (weights : List Float) (a : SampledValue) (lent_value lent_out : List �
           weights = all.1 ∙ ap (λ (i : ℕ). bytes_of (take m weights) ++ drop (4 * i) lent_out) k;
         })
 
-  pub wrote_nothing : (m : ℕ) → a ≡ sampled_value.Refused m
-      → DeliveredBytes (answer_of a weights) lent_value lent_value lent_out lent_out (record { number = m; count = 0 })
+  pub wrote_nothing : (r : Refusal) → a ≡ Err r
+      → DeliveredBytes (answer_of a weights) lent_value lent_value lent_out lent_out (record { number = number_of r; count = 0 })
   unfolding written_as
-  wrote_nothing m e =
-      from (sampled_value.Refused m) lent_value lent_out _ e
+  wrote_nothing r e =
+      from (Err r) lent_value lent_out _ e
       (record { number = refl; count = refl; value = refl; weights = refl })
 
 -- ---- the answer of a call
@@ -116,7 +120,7 @@ delivered-alike s r lent_value left_value lent_out left_out told a d = record {
 -- have
 module _ (t : scene.Track) (time : Float) (first : ℕ) (within : first ≡ 0 → track_over_limit t ≡ false)
     (weights : List Float) (lent_out : List ℕ) (fits : length weights ≡ min (length lent_out / 4) weight_limit)
-    (a : SampledValue) (left : List Float) (e : answer_of a left ≡ sampled first t time weights) where
+    (a : Result SampledValue Refusal) (left : List Float) (e : answer_of a left ≡ sampled first t time weights) where
   pub enough : length left ≡ length weights
       → ((answer_of a left).weights ≤ length left) × (4 * (answer_of a left).weights ≤ length lent_out)
   enough l =
@@ -163,8 +167,8 @@ module _ (table : List ℕ) (row u : ChannelRow) (e : row ≡ u) (at : Float) (r
   not-handed h =
       subst (λ (s : Decoded). DeliveredWithRoom s room lent_value lent_value lent_out lent_out two)
       (without-name call (floats_in table) row u e inside (bytes-draw table (track_for row)) h _
-      (λ tr. refused tr at (floats_in table) room (floats_in lent_out) _ 2 (two-stands tr at _) (λ z. omega arith)))
+      (λ tr. refused tr at (floats_in table) room (floats_in lent_out) _ OverLimit (two-stands tr at _)))
       (record {
-        answer = wrote_nothing (floats_in lent_out) (sampled_value.Refused 2) lent_value lent_out 2 refl;
+        answer = wrote_nothing (floats_in lent_out) (Err OverLimit) lent_value lent_out OverLimit refl;
         room = refl;
       })

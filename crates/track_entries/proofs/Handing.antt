@@ -19,6 +19,9 @@ use Rattle.scene.specs.declared.Quat.{Quat}
 use Rattle.animation.specs.Values.{answer_of}
 use Rattle.tracks.specs.Tracks.{keys_fit, values_fit, track_in, table_number}
 use Rattle.tracks.specs.declared.Track.{Track}
+use Rattle.std.proofs.Common.{Result, Ok, Err}
+use Rattle.refusals.specs.declared.Refusal.{Refusal}
+use Rattle.refusals.specs.Drawn.{number_of, number_drawn}
 use Rattle.animation.specs.declared.SampledValue.{SampledValue}
 use Rattle.animation.specs.declared.SampledValue.TheVariants as sampled_value
 use Rattle.tables.specs.declared.ChannelRow.{ChannelRow}
@@ -42,13 +45,13 @@ module _ (lent : List Float) (h : length lent ≡ 4) (x y z : Float) where
       ∙ ap (λ (l : List Float). x ∷ y ∷ z ∷ w ∷ drop 4 l) (sym (by_entries nan lent 4 h))
 
 -- what is told and left is what was sampled
-module _ (s : Sampled) (lent slice : List Float) (a : SampledValue) (e : answer_of a slice ≡ s) where
-  left : (b : SampledValue) (array : List Float) → a ≡ b
+module _ (s : Sampled) (lent slice : List Float) (a : Result SampledValue Refusal) (e : answer_of a slice ≡ s) where
+  left : (b : Result SampledValue Refusal) (array : List Float) → a ≡ b
       → array ≡ (answer_of b slice).value ++ drop (length (answer_of b slice).value) lent
       → Delivered s lent array (answer_of b slice).slice
       (record { number = (answer_of b slice).number; count = (answer_of b slice).weights })
   left b array f p =
-      let g : answer_of b slice ≡ s = ap (λ (x : SampledValue). answer_of x slice) (sym f) ∙ e in
+      let g : answer_of b slice ≡ s = ap (λ (x : Result SampledValue Refusal). answer_of x slice) (sym f) ∙ e in
       record {
         number = ap (λ (x : Sampled). x.number) g;
         count = ap (λ (x : Sampled). x.weights) g;
@@ -56,21 +59,21 @@ module _ (s : Sampled) (lent slice : List Float) (a : SampledValue) (e : answer_
         weights = ap (λ (x : Sampled). x.slice) g;
       }
 
-  pub left-vec3 : (v : Vec3) (array : List Float) → a ≡ sampled_value.Vec3 v → array ≡ vec3 v ++ drop 3 lent
+  pub left-vec3 : (v : Vec3) (array : List Float) → a ≡ Ok (sampled_value.Vec3 v) → array ≡ vec3 v ++ drop 3 lent
       → Delivered s lent array slice (record { number = 0; count = 0 })
-  left-vec3 v array f p = left (sampled_value.Vec3 v) array f p
+  left-vec3 v array f p = left (Ok (sampled_value.Vec3 v)) array f p
 
-  pub left-quat : (q : Quat) (array : List Float) → a ≡ sampled_value.Quat q → array ≡ quat q ++ drop 4 lent
+  pub left-quat : (q : Quat) (array : List Float) → a ≡ Ok (sampled_value.Quat q) → array ≡ quat q ++ drop 4 lent
       → Delivered s lent array slice (record { number = 0; count = 0 })
-  left-quat q array f p = left (sampled_value.Quat q) array f p
+  left-quat q array f p = left (Ok (sampled_value.Quat q)) array f p
 
-  pub left-weights : (n : ℕ) → a ≡ sampled_value.Scalar n
+  pub left-weights : (n : ℕ) → a ≡ Ok (sampled_value.Scalar n)
       → Delivered s lent lent slice (record { number = 0; count = n })
-  left-weights n f = left (sampled_value.Scalar n) lent f refl
+  left-weights n f = left (Ok (sampled_value.Scalar n)) lent f refl
 
-  pub left-refused : (n : ℕ) → a ≡ sampled_value.Refused n
-      → Delivered s lent lent slice (record { number = n; count = 0 })
-  left-refused n f = left (sampled_value.Refused n) lent f refl
+  pub left-refused : (r : Refusal) → a ≡ Err r
+      → Delivered s lent lent slice (record { number = number_of r; count = 0 })
+  left-refused r f = left (Err r) lent f refl
 
 -- ---- the answers
 

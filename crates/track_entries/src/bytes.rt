@@ -6,28 +6,26 @@ ghost use Rattle.std.specs.Float.Ieee.{of_bits};
 ghost use Rattle.model.specs.Limits.{weight_limit};
 ghost use Rattle.model.specs.Bake.{written};
 ghost use Rattle.animation.specs.Values.{answer_of};
+ghost use Rattle.refusals.specs.Drawn.{number_drawn};
 ghost use Rattle.wire.specs.Bytes.{floats_in};
 ghost use Rattle.track_entries.specs.Tracks.{row_for, sampled_in};
 ghost use Rattle.track_entries.specs.Bytes.{first_in_bytes, sampled_in_bytes, sampled_for_bytes};
 ghost use Rattle.track_entries.specs.Bytes.{DeliveredBytes, SampledBytes};
 
-use crate::floats::{Told, is_unnamed, row_for};
+use crate::floats::{Told, is_unnamed, refused, row_for};
 use animation::SampledValue;
-use refusals::{OVER_LIMIT, SHORT_SCRATCH, WEIGHT_LIMIT};
+use refusals::{Refusal, WEIGHT_LIMIT};
 use tracks::Track;
 
-// The number as far as 6, with room to decode so many floats.
-fn first_number(table: &[u8], t: Track, time: f32, room: usize) -> u32
-    ensures { result ≡ first_in_bytes table.now t time room }
+// What the call draws as far as 6, with room to decode so many floats.
+fn check_first(table: &[u8], t: Track, time: f32, room: usize) -> Result<(), Refusal>
+    ensures { number_drawn result ≡ first_in_bytes table.now t time room }
 {
-    let drawn = byte_tracks::sample_number(table, t, time);
-    if drawn != 0 {
-        return drawn;
-    }
+    byte_tracks::check_sample(table, t, time)?;
     if room < table.len() / 4 {
-        return SHORT_SCRATCH;
+        return Err(Refusal::ShortScratch);
     }
-    0
+    Ok(())
 }
 
 // The value of a track in a table that there is room to decode.
@@ -37,7 +35,7 @@ fn sample_decoded(
     time: f32,
     room: &mut [f32],
     weights: &mut [f32],
-) -> SampledValue
+) -> Result<SampledValue, Refusal>
     requires { length table.now / 4 ≤ length room.old }
     ensures { (answer_of result weights.new
         ≡ sampled_in (floats_in table.now) t time weights.old)
@@ -54,22 +52,19 @@ fn sample_in(
     time: f32,
     room: &mut [f32],
     weights: &mut [f32],
-) -> SampledValue
+) -> Result<SampledValue, Refusal>
     ensures { record { answer = answer_of result weights.new; room = room.new }
         ≡ sampled_in_bytes table.now t time room.old weights.old }
 {
-    let number = first_number(table, t, time, room.len());
-    if number != 0 {
-        return SampledValue::Refused(number);
-    }
+    check_first(table, t, time, room.len())?;
     sample_decoded(table, t, time, room, weights)
 }
 
 // Writes a Vec3 or Quat to `value`, or so many of the weights to `out`, and tells number and count.
 fn deliver(sampled: SampledValue, weights: &[f32], value: &mut [u8; 16], out: &mut [u8]) -> Told
-    requires { ((answer_of sampled weights.now).weights ≤ length weights.now)
-        × (4 * (answer_of sampled weights.now).weights ≤ length out.old) }
-    ensures { DeliveredBytes (answer_of sampled weights.now) value.old value.new
+    requires { ((answer_of (Ok sampled) weights.now).weights ≤ length weights.now)
+        × (4 * (answer_of (Ok sampled) weights.now).weights ≤ length out.old) }
+    ensures { DeliveredBytes (answer_of (Ok sampled) weights.now) value.old value.new
         out.old out.new result }
 {
     match sampled {
@@ -93,7 +88,6 @@ fn deliver(sampled: SampledValue, weights: &[f32], value: &mut [u8; 16], out: &m
             let count = wire::write_floats(&weights[..n], out);
             Told { number: 0, count }
         }
-        SampledValue::Refused(number) => Told { number, count: 0 },
     }
 }
 
@@ -110,8 +104,10 @@ fn sample_over(
     requires { length weights.old ≡ min (length out.old / 4) weight_limit }
     ensures { SampledBytes (sampled_in_bytes table.now t time) room value out result }
 {
-    let sampled = sample_in(table, t, time, room, weights);
-    deliver(sampled, weights, value, out)
+    match sample_in(table, t, time, room, weights) {
+        Ok(sampled) => deliver(sampled, weights, value, out),
+        Err(r) => refused(r),
+    }
 }
 
 // The value of a track at the time with the given bit pattern. A Vec3 or Quat is written to the start of `value`, the
@@ -145,10 +141,7 @@ pub extern "C" fn mesh3d_sample(
         values_count,
     );
     if is_unnamed(table.len() / 4, row) {
-        return Told {
-            number: OVER_LIMIT,
-            count: 0,
-        };
+        return refused(Refusal::OverLimit);
     }
     let t = tables::track_of(row);
     let time = float::from_bits(time);

@@ -5,6 +5,7 @@
 ghost use Rattle.std.specs.Prelude.{◌≡◌, Bool, not, ◌&&◌, ◌++◌, drop};
 ghost use Rattle.scene.specs.Values.{vec3, quat};
 ghost use Rattle.model.specs.Sampling.{in_line};
+ghost use Rattle.refusals.specs.Drawn.{number_of};
 ghost use Rattle.tracks.specs.Tracks.{keys_fit, values_fit};
 ghost use Rattle.animation.specs.Values.{answer_of};
 ghost use Rattle.tables.specs.Tags.{is_marked, track_for};
@@ -13,7 +14,7 @@ ghost use Rattle.track_entries.specs.Tracks.{row_for, sampled_for, frame_in, str
 ghost use Rattle.track_entries.specs.Tracks.{Samples, Frames};
 
 use animation::SampledValue;
-use refusals::OVER_LIMIT;
+use refusals::Refusal;
 use scene::{Quat, Vec3};
 use tables::ChannelRow;
 use tracks::{Part, Track};
@@ -86,12 +87,27 @@ pub struct Told {
     pub count: usize,
 }
 
+// A refusal's number, and no count.
+pub(crate) fn refused(r: Refusal) -> Told
+    ensures { result ≡ record { number = number_of r; count = 0 } }
+{
+    Told {
+        number: u32::from(r),
+        count: 0,
+    }
+}
+
 // The value of a track at a time, by its numbers.
-fn sample_row(floats: &[f32], row: ChannelRow, time: f32, out: &mut [f32]) -> SampledValue
+fn sample_row(
+    floats: &[f32],
+    row: ChannelRow,
+    time: f32,
+    out: &mut [f32],
+) -> Result<SampledValue, Refusal>
     ensures { answer_of result out.new ≡ sampled_for floats.now row time out.old }
 {
     if is_unnamed(floats.len(), row) {
-        return SampledValue::Refused(OVER_LIMIT);
+        return Err(Refusal::OverLimit);
     }
     animation::sample(floats, tables::track_of(row), time, out)
 }
@@ -123,7 +139,7 @@ pub extern "C" fn mesh3d_sample_floats(
         values_count,
     );
     match sample_row(floats, row, time, out) {
-        SampledValue::Vec3(v) => {
+        Ok(SampledValue::Vec3(v)) => {
             let lent = *value;
             *value = vec3_over(v, lent);
             Told {
@@ -131,7 +147,7 @@ pub extern "C" fn mesh3d_sample_floats(
                 count: 0,
             }
         }
-        SampledValue::Quat(q) => {
+        Ok(SampledValue::Quat(q)) => {
             let lent = *value;
             *value = quat_over(q, lent);
             Told {
@@ -139,8 +155,8 @@ pub extern "C" fn mesh3d_sample_floats(
                 count: 0,
             }
         }
-        SampledValue::Scalar(count) => Told { number: 0, count },
-        SampledValue::Refused(number) => Told { number, count: 0 },
+        Ok(SampledValue::Scalar(count)) => Told { number: 0, count },
+        Err(r) => refused(r),
     }
 }
 
@@ -181,18 +197,14 @@ pub extern "C" fn mesh3d_frame_floats(
         values_count,
     );
     if is_unnamed(floats.len(), row) {
-        return Told {
-            number: OVER_LIMIT,
-            count: 0,
-        };
+        return refused(Refusal::OverLimit);
     }
     let t = tables::track_of(row);
     let rows = tables::is_marked(rows);
-    let number = animation::frame_number(floats, t, rows, k);
-    let copied = outputs::copy_out(number, frame_in(floats, t, rows, k), out);
-    Told {
-        number: copied.number,
-        count: copied.count,
+    let drawn = animation::check_frame(floats, t, rows, k);
+    match outputs::copy_out(drawn, frame_in(floats, t, rows, k), out) {
+        Ok(count) => Told { number: 0, count },
+        Err(r) => refused(r),
     }
 }
 

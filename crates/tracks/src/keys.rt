@@ -11,12 +11,10 @@ pub fn keys_in_line(keys: &[f32]) -> bool
     }
     let mut last = keys[0];
     let mut rising = float::is_finite(last);
-    let mut i = 1;
-    while i < keys.len() {
+    for i in 1..keys.len() {
         let key = keys[i];
         rising = rising & (last < key);
         last = key;
-        i += 1;
     }
     rising & float::is_finite(last)
 }

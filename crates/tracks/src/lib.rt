@@ -8,7 +8,7 @@ mod numbers;
 
 pub use keys::keys_in_line;
 pub use layout::{centre, factor, fits, track_stride, width};
-pub use numbers::{is_scalar, lies_in, number_in, table_number};
+pub use numbers::{check_in, check_table, is_scalar, lies_in};
 
 #[derive(Clone, Copy)]
 pub enum Interpolation {

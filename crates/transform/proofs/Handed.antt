@@ -2,7 +2,7 @@
 use mathlib.Core.Path.{◌≡◌, refl, sym, ap, ◌∙◌}
 use mathlib.Core.Bool.{Bool, true, false, not}
 use mathlib.Core.List.{List, [], ◌∷◌, ◌++◌, map, append-nil}
-use Prim.Native.Nat.{ℕ, ◌+◌, ◌/◌}
+use Prim.Native.Nat.{ℕ, ◌/◌}
 use native.Mathlib.Omega.{arith}
 use lib.Ieee.{Float, nan, neg}
 use lib.ListN.{length, get_or, drop}
@@ -16,8 +16,7 @@ use Rattle.model.proofs.RowLaws.{Rows}
 use Rattle.model.proofs.Rowwise.{rows_of, row-length, map-tabulate, tabulate-alike, each-tabulated, rows-over, over-again}
 use Rattle.scene.specs.Values.{mat3, linear_of}
 use Rattle.scene.specs.declared.Mat3.{Mat3}
-use Rattle.scene.specs.declared.Linear.{Linear}
-use Rattle.scene.specs.declared.Linear.TheVariants as linear
+use Rattle.std.proofs.Common as rust
 use Rattle.vertex_rows.specs.Rows.{tangent_by, flipped}
 use Rattle.vertex_rows.proofs.RowSteps.{each-kept}
 use Rattle.vertex_rows.proofs.RowLengths.{unit-length}
@@ -98,12 +97,12 @@ module _ (m lent here : List Float) (mirror : Bool) (turns : here ≡ over_rows 
       mirrors false e = e
 
 -- normals by a normal matrix n
-module _ (n : Linear) (lent : List Float) where
-  pub normals-turned : (l : Mat3) (left : List Float) → n ≡ linear.Of l → left ≡ over_rows 3 (map (xyz_turned (mat3 l)) (rows_in 3 lent)) lent → left ≡ over_rows 3 (map (turned_normal (linear_of n)) (rows_in 3 lent)) lent
+module _ (n : rust.Option Mat3) (lent : List Float) where
+  pub normals-turned : (l : Mat3) (left : List Float) → n ≡ rust.Some l → left ≡ over_rows 3 (map (xyz_turned (mat3 l)) (rows_in 3 lent)) lent → left ≡ over_rows 3 (map (turned_normal (linear_of n)) (rows_in 3 lent)) lent
   normals-turned l left e p =
       p
       ∙ ap (λ (r : List Vector). over_rows 3 r lent) (rows_alike 3 (xyz_turned (mat3 l)) (turned_unit (mat3 l)) lent (three (mat3 l)))
-      ∙ sym (ap (λ (x : Linear). over_rows 3 (map (turned_normal (linear_of x)) (rows_in 3 lent)) lent) e)
+      ∙ sym (ap (λ (x : rust.Option Mat3). over_rows 3 (map (turned_normal (linear_of x)) (rows_in 3 lent)) lent) e)
 
-  pub normals-left : n ≡ linear.None → lent ≡ over_rows 3 (map (turned_normal (linear_of n)) (rows_in 3 lent)) lent
-  normals-left e = each-kept 3 lent ∙ sym (ap (λ (x : Linear). over_rows 3 (map (turned_normal (linear_of x)) (rows_in 3 lent)) lent) e)
+  pub normals-left : n ≡ rust.None → lent ≡ over_rows 3 (map (turned_normal (linear_of n)) (rows_in 3 lent)) lent
+  normals-left e = each-kept 3 lent ∙ sym (ap (λ (x : rust.Option Mat3). over_rows 3 (map (turned_normal (linear_of x)) (rows_in 3 lent)) lent) e)

@@ -41,11 +41,9 @@ fn put_each(d: &[f32; 48], r: Roots, w: usize, s: &mut [f32], k: usize)
     ensures { s.new ≡ rows_from w (λ i. unit_over (row 3 d.now i)) k s.old 16 }
 {
     let n = r.of;
-    let mut i = 0usize;
-    while i < 16 {
+    for i in 0..16 {
         let v = load3(d, i * 3);
         put_unit(v, n[i], w, s, k + i);
-        i += 1;
     }
 }
 
@@ -61,10 +59,8 @@ fn put(d: &[f32; 48], w: usize, s: &mut [f32], k: usize)
     requires { (3 ≤ w) × ((k + 16) * w ≤ length s.old) }
     ensures { s.new ≡ rows_from w (λ i. begun (row 3 d.now i)) k s.old 16 }
 {
-    let mut i = 0usize;
-    while i < 16 {
+    for i in 0..16 {
         put_row(load3(d, i * 3), w, s, k + i);
-        i += 1;
     }
 }
 
@@ -136,10 +132,8 @@ fn turn_blocks(l: Mat3, w: usize, s: &mut [f32])
 {
     let n = s.len() / w / 16;
     let mut d = [0.0f32; 48];
-    let mut b = 0usize;
-    while b < n {
+    for b in 0..n {
         turn_block(l, w, s, b * 16, &mut d);
-        b += 1;
     }
 }
 
@@ -160,10 +154,8 @@ fn turn_rest(l: Mat3, w: usize, s: &mut [f32])
 {
     let n = s.len() / w;
     let k = n / 16 * 16;
-    let mut i = 0usize;
-    while i < n - k {
+    for i in 0..n - k {
         turn_row(l, w, s, k + i);
-        i += 1;
     }
 }
 

@@ -17,11 +17,9 @@ pub(crate) fn gather(w: usize, s: &[f32], k: usize, d: &mut [f32; 48])
     requires { (3 ≤ w) × ((k + 16) * w ≤ length s.now) }
     ensures { Packed 16 (λ i. part s.now ((k + i) * w) 3) d.new }
 {
-    let mut i = 0usize;
-    while i < 16 {
+    for i in 0..16 {
         let v = load3(s, (k + i) * w);
         store3(d, i * 3, v);
-        i += 1;
     }
 }
 
@@ -37,12 +35,10 @@ pub(crate) fn turn(l: Mat3, d: &mut [f32; 48]) -> Block
         × (result.of ≡ squares_of d.new) }
 {
     let mut out = [0.0f32; 16];
-    let mut i = 0usize;
-    while i < 16 {
+    for i in 0..16 {
         let v = scene::mul3(l, load3(d, i * 3));
         store3(d, i * 3, v);
         out[i] = square(v);
-        i += 1;
     }
     Block { of: out }
 }
@@ -54,12 +50,10 @@ pub(crate) fn gather_turned(l: Mat3, w: usize, s: &[f32], k: usize, d: &mut [f32
         × (result.of ≡ squares_of d.new) }
 {
     let mut out = [0.0f32; 16];
-    let mut i = 0usize;
-    while i < 16 {
+    for i in 0..16 {
         let v = scene::mul3(l, load3(s, (k + i) * w));
         store3(d, i * 3, v);
         out[i] = square(v);
-        i += 1;
     }
     Block { of: out }
 }
@@ -69,10 +63,8 @@ pub(crate) fn squares(d: &[f32; 48]) -> Block
     ensures { result.of ≡ squares_of d.now }
 {
     let mut out = [0.0f32; 16];
-    let mut i = 0usize;
-    while i < 16 {
+    for i in 0..16 {
         out[i] = square(load3(d, i * 3));
-        i += 1;
     }
     Block { of: out }
 }
@@ -92,10 +84,8 @@ pub(crate) fn units(d: &mut [f32; 48], r: Roots)
     ensures { Packed 16 (λ i. over (row 3 d.old i) (get_or r.of i nan)) d.new }
 {
     let n = r.of;
-    let mut i = 0usize;
-    while i < 16 {
+    for i in 0..16 {
         let v = load3(d, i * 3);
         store3(d, i * 3, divided(v, n[i]));
-        i += 1;
     }
 }

@@ -8,17 +8,16 @@ ghost use Rattle.vertex_rows.specs.Rows.{tangent_by};
 ghost use Rattle.transform.specs.Rigid.{TurnsAll};
 
 use crate::blocks::turn_rows;
-use scene::{Linear, Mat3, Mat4};
+use scene::{Mat3, Mat4};
 use vertex_rows::{flip_tangents, transform_positions};
 
 // Turns all normals by the normal matrix, if there is one.
-fn transform_normals(n: Linear, normals: &mut [f32])
+fn transform_normals(n: Option<Mat3>, normals: &mut [f32])
     ensures { normals.new ≡ over_rows 3
         (map (turned_normal (linear_of n)) (rows_in 3 normals.old)) normals.old }
 {
-    match n {
-        Linear::Of(l) => turn_rows(l, 3, normals),
-        Linear::None => {}
+    if let Some(l) = n {
+        turn_rows(l, 3, normals);
     }
 }
 

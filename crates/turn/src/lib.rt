@@ -21,10 +21,8 @@ fn series(v: f64, c: f64) -> f64
     let vv = v * v;
     let d = 1.0 - c;
     let mut g = 1.0;
-    let mut i = 40u32;
-    while i > 0 {
+    for i in (1..=40).rev() {
         g = series_step(i, vv, d, g);
-        i -= 1;
     }
     v * g
 }

@@ -1,27 +1,18 @@
--- The matrix of a vertex as it is added up, and a vertex that is moved by it. Definitions only.
-use Rattle.std.specs.Prelude.{◌≡◌, List, [], ◌∷◌, ◌++◌, ℕ, Float, replicate}
-use Rattle.std.proofs.Math.Option.{Option, none, some}
-use Rattle.float.specs.F32.{zero32}
-use Rattle.model.specs.Lists.{pick, foldl, is_some}
+-- An influence added to the matrix of a vertex, and a vertex that is moved by it. Definitions only.
+use Rattle.std.specs.Prelude.{◌≡◌, List, [], ◌∷◌, ◌++◌, ℕ, Float}
+use Rattle.std.specs.Prelude as rust
+use Rattle.std.proofs.Math.Option.{Option}
 use Rattle.borrowed.specs.Slices.{Floats}
-use Rattle.model.specs.Vector.{◌⊙◌, ◌⊞◌}
 use Rattle.model.specs.Matrix.{Matrix, inverse_transpose}
 use Rattle.model.specs.Vertices.{Influence, influences, mixture, by_matrix, affine_point, turned_normal, turned_tangent}
-use Rattle.vertex_rows.specs.declared.influences.Blend.{Blend}
+use Rattle.scene.specs.declared.Mat4.{Mat4}
+use Rattle.scene.specs.Values.{matrix_of}
 use Rattle.vertex_rows.specs.Rows.{row_changed}
 
--- the matrix, if an influence counted
-abbrev pub blended : Blend → Option Matrix
-blended b = pick b.any (some b.matrix.m) none
-
--- these influences are added up
-pub record Blends (is : List Influence) (b : Blend) : Type 0 where
-  pub any : b.any ≡ is_some (mixture is)
-  pub matrix : b.matrix.m ≡ foldl (λ (m : Matrix) (i : Influence). m ⊞ i.weight ⊙ i.matrix) (replicate 16 zero32) is
-
 -- an influence more, where it counts
-pub record Added (palette : List Matrix) (j : ℕ) (w : Float) (b r : Blend) : Type 0 where
-  pub more : (is : List Influence) → Blends is b → Blends (is ++ influences palette (j ∷ []) (w ∷ [])) r
+pub record Added (palette : List Matrix) (j : ℕ) (w : Float) (sum more : rust.Option Mat4) : Type 0 where
+  pub adds : (is : List Influence) → matrix_of sum ≡ mixture is
+      → matrix_of more ≡ mixture (is ++ influences palette (j ∷ []) (w ∷ []))
 
 -- normal and tangent v after a vertex is turned by a matrix
 pub record Turned (m : Matrix) (v : ℕ) (lent_normals left_normals lent_tangents left_tangents : List Float) : Type 0 where

@@ -1,5 +1,5 @@
 -- Rows of a slice that are changed one by one, and tangents. Definitions only.
-use Rattle.std.specs.Prelude.{List, [], ◌∷◌, ◌++◌, Bool, ◌&&◌, ℕ, zero, suc, ◌*◌, ◌/◌, ltb, Float, length, take}
+use Rattle.std.specs.Prelude.{◌≡◌, List, [], ◌∷◌, ◌++◌, Bool, ◌&&◌, ℕ, zero, suc, ◌*◌, ◌/◌, ltb, Float, length, take}
 use Rattle.std.specs.Float.Ieee.{neg, eq}
 use Rattle.std.proofs.Math.Seq.{paste}
 use Rattle.float.specs.F32.{zero32, one32}
@@ -7,6 +7,8 @@ use Rattle.model.specs.Lists.{pick, row}
 use Rattle.model.specs.Vector.{Vector, at}
 use Rattle.model.specs.Matrix.{Matrix, entry}
 use Rattle.model.specs.Vertices.{turned_unit}
+use Rattle.scene.specs.declared.Vec3.{Vec3}
+use Rattle.scene.specs.Values.{vec3}
 use Rattle.vertex_rows.specs.declared.rows.Tangent.{Tangent}
 
 abbrev pub tangent : Tangent → Vector
@@ -33,3 +35,8 @@ row_changed w f k l = pick (ltb k (length l / w)) (paste l (k * w) (f (row w l k
 unfoldable pub first_rows : ℕ → (ℕ → Vector → Vector) → List Float → ℕ → List Float
 first_rows w f l zero = l
 first_rows w f l (suc k) = row_changed w (f k) k (first_rows w f l k)
+
+-- a call makes of a point what g makes of it, three numbers
+pub record Makes (R : Vec3 → Vec3 → Type 0) (g : Vector → Vector) : Type 0 where
+  pub made : (p r : Vec3) → R p r → vec3 r ≡ g (vec3 p)
+  pub three : (v : Vector) → length (g v) ≡ 3

@@ -6,17 +6,13 @@ ghost use Rattle.scene.specs.Values.{vec3, mat3, linear_of};
 ghost use Rattle.vertex_rows.specs.Rows.{tangent, tangent_by, flipped, row_changed};
 
 use crate::rows::{Tangent, load3, load4, store3, store4};
-use scene::{Direction, Linear, Mat3, Vec3};
+use scene::{Mat3, Vec3};
 
 // l times v, of length 1; v where that has no length.
 fn turned_unit(l: Mat3, v: Vec3) -> Vec3
     ensures { vec3 result ≡ turned_unit (mat3 l) (vec3 v) }
 {
-    let d = scene::normalize3(scene::mul3(l, v));
-    match d {
-        Direction::Unit(u) => u,
-        Direction::None => v,
-    }
+    scene::normalize3(scene::mul3(l, v)).unwrap_or(v)
 }
 
 // The tangent t by a linear part; the handedness flips under a mirror.
@@ -47,12 +43,11 @@ fn turn_unit(l: Mat3, normals: &mut [f32], k: usize)
 }
 
 // Turns normal k by the normal matrix, if there are both.
-pub(crate) fn turn_normal(n: Linear, normals: &mut [f32], k: usize)
+pub(crate) fn turn_normal(n: Option<Mat3>, normals: &mut [f32], k: usize)
     ensures { normals.new ≡ row_changed 3 (turned_normal (linear_of n)) k normals.old }
 {
-    match n {
-        Linear::Of(l) => turn_unit(l, normals, k),
-        Linear::None => {}
+    if let Some(l) = n {
+        turn_unit(l, normals, k);
     }
 }
 
@@ -92,9 +87,7 @@ pub fn flip_tangents(tangents: &mut [f32])
         tangents.old }
 {
     let n = tangents.len() / 4;
-    let mut k = 0usize;
-    while k < n {
+    for k in 0..n {
         flip_tangent(tangents, k);
-        k += 1;
     }
 }

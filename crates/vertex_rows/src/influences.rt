@@ -3,18 +3,11 @@ ghost use Rattle.std.specs.Float.Ieee.{lt};
 ghost use Rattle.std.specs.Float.Ieee.Scale.{finite};
 ghost use Rattle.float.specs.F32.{zero32};
 ghost use Rattle.model.specs.Lists.{row, rows_in};
-ghost use Rattle.model.specs.Vertices.{influences, joint_matrix};
-ghost use Rattle.vertex_rows.specs.Blending.{blended, Blends, Added};
+ghost use Rattle.model.specs.Vertices.{influences, mixture, joint_matrix};
+ghost use Rattle.scene.specs.Values.{matrix_of};
+ghost use Rattle.vertex_rows.specs.Blending.{Added};
 
-use crate::rows::load16;
 use scene::Mat4;
-
-// The weighted joint matrices of a vertex added up, and whether there is one.
-#[derive(Clone, Copy)]
-pub struct Blend {
-    pub any: bool,
-    pub matrix: Mat4,
-}
 
 fn wide(x: u32) -> usize
     ensures { (result ≡ x) × (result < 4294967296) }
@@ -29,39 +22,34 @@ fn counts(w: f32) -> bool
 }
 
 // Adds w times the matrix of joint j, where both count.
-fn add_influence(b: Blend, palette: &[f32], j: usize, w: f32) -> Blend
-    ensures { Added (rows_in 16 palette.now) j w b result }
+fn add_influence(sum: Option<Mat4>, palette: &[f32], j: usize, w: f32) -> Option<Mat4>
+    ensures { Added (rows_in 16 palette.now) j w sum result }
 {
     if j < palette.len() / 16 {
         if counts(w) {
-            let matrix = scene::mat4_madd(b.matrix, w, load16(palette, j * 16));
-            return Blend { any: true, matrix };
+            let so_far = sum.unwrap_or(Mat4 { m: [0.0f32; 16] });
+            return Some(scene::mat4_madd(so_far, w, scene::matrix_at(palette, j * 16)));
         }
     }
-    b
+    sum
 }
 
-// The influences of vertex v, which has a row of each.
-fn blend_row(palette: &[f32], joints: &[u32], weights: &[f32], v: usize) -> Blend
+// The influences of vertex v, which has a row of each, added up.
+fn blend_row(palette: &[f32], joints: &[u32], weights: &[f32], v: usize) -> Option<Mat4>
     requires { (v < length joints.now / 4) × (v < length weights.now / 4) }
-    ensures { Blends (influences (rows_in 16 palette.now) (row 4 joints.now v)
-        (row 4 weights.now v)) result }
+    ensures { matrix_of result ≡ mixture (influences (rows_in 16 palette.now)
+        (row 4 joints.now v) (row 4 weights.now v)) }
 {
-    let mut b = Blend {
-        any: false,
-        matrix: Mat4 { m: [0.0f32; 16] },
-    };
-    let mut e = 0usize;
-    while e < 4 {
-        b = add_influence(b, palette, wide(joints[v * 4 + e]), weights[v * 4 + e]);
-        e += 1;
+    let mut sum = None;
+    for e in 0..4 {
+        sum = add_influence(sum, palette, wide(joints[v * 4 + e]), weights[v * 4 + e]);
     }
-    b
+    sum
 }
 
-// The matrix of vertex v.
-pub fn joint_matrix(palette: &[f32], joints: &[u32], weights: &[f32], v: usize) -> Blend
-    ensures { blended result ≡ joint_matrix (rows_in 16 palette.now) (rows_in 4 joints.now)
+// The matrix of vertex v, its weighted joint matrices added up; none where no influence counts.
+pub fn joint_matrix(palette: &[f32], joints: &[u32], weights: &[f32], v: usize) -> Option<Mat4>
+    ensures { matrix_of result ≡ joint_matrix (rows_in 16 palette.now) (rows_in 4 joints.now)
         (rows_in 4 weights.now) v }
 {
     if v < joints.len() / 4 {
@@ -69,8 +57,5 @@ pub fn joint_matrix(palette: &[f32], joints: &[u32], weights: &[f32], v: usize) 
             return blend_row(palette, joints, weights, v);
         }
     }
-    Blend {
-        any: false,
-        matrix: Mat4 { m: [0.0f32; 16] },
-    }
+    None
 }

@@ -2,10 +2,11 @@ ghost use Rattle.std.specs.Prelude.{◌≡◌, map};
 ghost use Rattle.model.specs.Lists.{rows_in};
 ghost use Rattle.model.specs.Vertices.{affine_point, transformed_point};
 ghost use Rattle.model.specs.Attributes.{over_rows};
-ghost use Rattle.vertex_rows.specs.Rows.{row_changed, has_plain_bottom};
+ghost use Rattle.model.specs.Vector.{Vector};
+ghost use Rattle.vertex_rows.specs.Rows.{row_changed, has_plain_bottom, Makes};
 
 use crate::rows::{load3, store3};
-use scene::Mat4;
+use scene::{Mat4, Vec3};
 
 // Moves position k, if there is one, with no perspective division.
 pub fn move_position(m: Mat4, positions: &mut [f32], k: usize)
@@ -17,37 +18,15 @@ pub fn move_position(m: Mat4, positions: &mut [f32], k: usize)
     }
 }
 
-fn move_positions(m: Mat4, positions: &mut [f32])
-    ensures { positions.new ≡ over_rows 3 (map (affine_point m.m) (rows_in 3 positions.old))
-        positions.old }
+// Replaces each position by what f makes of it.
+fn move_each<F: Fn(Vec3) -> Vec3>(f: F, positions: &mut [f32])
+    requires { F.IsAlwaysCallable f }
+    ensures { (g : Vector → Vector) → Makes (F.post f) g → positions.new ≡ over_rows 3
+        (map g (rows_in 3 positions.old)) positions.old }
 {
-    let n = positions.len() / 3;
-    let mut k = 0usize;
-    while k < n {
-        move_position(m, positions, k);
-        k += 1;
-    }
-}
-
-// Moves position k, if there is one, with the perspective division.
-fn project_position(m: Mat4, positions: &mut [f32], k: usize)
-    ensures { positions.new ≡ row_changed 3 (transformed_point m.m) k positions.old }
-{
-    if k < positions.len() / 3 {
+    for k in 0..positions.len() / 3 {
         let p = load3(positions, k * 3);
-        store3(positions, k * 3, scene::transform_point(m, p));
-    }
-}
-
-fn project_positions(m: Mat4, positions: &mut [f32])
-    ensures { positions.new ≡ over_rows 3
-        (map (transformed_point m.m) (rows_in 3 positions.old)) positions.old }
-{
-    let n = positions.len() / 3;
-    let mut k = 0usize;
-    while k < n {
-        project_position(m, positions, k);
-        k += 1;
+        store3(positions, k * 3, f(p));
     }
 }
 
@@ -64,8 +43,8 @@ pub fn transform_positions(m: Mat4, positions: &mut [f32])
         (map (transformed_point m.m) (rows_in 3 positions.old)) positions.old }
 {
     if has_plain_bottom(m) {
-        move_positions(m, positions);
+        move_each(|p| scene::affine_point(m, p), positions);
         return;
     }
-    project_positions(m, positions);
+    move_each(|p| scene::transform_point(m, p), positions);
 }

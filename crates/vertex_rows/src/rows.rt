@@ -4,7 +4,7 @@ ghost use Rattle.model.specs.Lists.{part};
 ghost use Rattle.scene.specs.Values.{vec3};
 ghost use Rattle.vertex_rows.specs.Rows.{tangent};
 
-use scene::{Mat4, Vec3};
+use scene::Vec3;
 
 // A direction along the surface, and the side on which the bitangent lies.
 #[derive(Clone, Copy)]
@@ -34,20 +34,6 @@ pub(crate) fn load4(s: &[f32], at: usize) -> Tangent
         direction,
         handedness: s[at + 3],
     }
-}
-
-// `scene::load` without its look whether the sixteen floats are there.
-pub(crate) fn load16(s: &[f32], at: usize) -> Mat4
-    requires { at + 16 ≤ length s.now }
-    ensures { result.m ≡ part s.now at 16 }
-{
-    let mut out = [0.0f32; 16];
-    let mut k = 0usize;
-    while k < 16 {
-        out[k] = s[at + k];
-        k += 1;
-    }
-    Mat4 { m: out }
 }
 
 // Writes three floats from `at` on.

@@ -1,7 +1,7 @@
-ghost use Rattle.vertex_rows.specs.Blending.{blended, TurnedIn, SkinnedIn};
+ghost use Rattle.scene.specs.Values.{matrix_of};
+ghost use Rattle.vertex_rows.specs.Blending.{TurnedIn, SkinnedIn};
 
 use crate::directions::{turn_normal, turn_tangent};
-use crate::influences::Blend;
 use crate::positions::move_position;
 use scene::Mat4;
 
@@ -18,18 +18,17 @@ fn skin_directions(m: Mat4, normals: &mut [f32], tangents: &mut [f32], v: usize)
     );
 }
 
-// Vertex v by its joint matrix.
+// Vertex v by its joint matrix, if it has one.
 pub fn skin_vertex(
-    b: Blend,
+    joint: Option<Mat4>,
     positions: &mut [f32],
     normals: &mut [f32],
     tangents: &mut [f32],
     v: usize,
 )
-    ensures { SkinnedIn (blended b) v positions normals tangents }
+    ensures { SkinnedIn (matrix_of joint) v positions normals tangents }
 {
-    if b.any {
-        let m = b.matrix;
+    if let Some(m) = joint {
         move_position(m, positions, v);
         skin_directions(m, normals, tangents, v);
     }

@@ -1,34 +1,25 @@
 // Little-endian words and floats in byte slices. Every NaN pattern is read as the one NaN, which is written 7fc00000.
 #![tactic(auto)]
 
-ghost use Rattle.std.specs.Prelude.{◌≡◌, ◌++◌, ◌+◌, ◌≤◌, ◌<◌, min, length, get_or, take, drop};
-ghost use Rattle.std.specs.Float.{nan};
+ghost use Rattle.std.specs.Prelude.{◌≡◌, ℕ, ◌++◌, ◌+◌, ◌≤◌, min, length, get_or, take, drop, from_bits, to_bits};
+ghost use Rattle.std.specs.Float.{binary32, nan};
 ghost use Rattle.borrowed.specs.Written.{Writes};
-ghost use Rattle.wire.specs.Bytes.{word_at, words_in, floats_in, word_bytes, WritesWords, WritesFloats};
+ghost use Rattle.wire.specs.Bytes.{word_at, read_as, words_in, floats_in, word_bytes};
+ghost use Rattle.wire.specs.Bytes.{WroteAs, WritesWords, WritesFloats};
 
 pub fn least(a: usize, b: usize) -> usize
     ensures { result ≡ min a b }
 {
-    if a < b { a } else { b }
+    a.min(b)
 }
 
 // Copies to the start of `out` as much as there is room for, and answers how much.
 pub fn copy_floats(part: &[f32], out: &mut [f32]) -> usize
     ensures { Writes part.now out result }
 {
-    let n = least(part.len(), out.len());
-    let mut i = 0;
-    while i < n {
-        out[i] = part[i];
-        i += 1;
-    }
+    let n = part.len().min(out.len());
+    out[..n].copy_from_slice(&part[..n]);
     n
-}
-
-fn wide(x: u8) -> u32
-    ensures { (result ≡ x) × (result < 256) }
-{
-    x as u32
 }
 
 // The word whose first byte is byte i.
@@ -36,11 +27,7 @@ fn word_at(bytes: &[u8], i: usize) -> u32
     requires { i + 4 ≤ length bytes.now }
     ensures { result ≡ word_at bytes.now i }
 {
-    let a = wide(bytes[i]);
-    let b = wide(bytes[i + 1]);
-    let c = wide(bytes[i + 2]);
-    let d = wide(bytes[i + 3]);
-    a + b * 256 + c * 65536 + d * 16777216
+    u32::from_le_bytes([bytes[i], bytes[i + 1], bytes[i + 2], bytes[i + 3]])
 }
 
 // Float i, and NaN where there is none.
@@ -59,60 +46,92 @@ fn put_word(bytes: &mut [u8], i: usize, w: u32)
     ensures { bytes.new ≡ take i bytes.old ++ word_bytes w
         ++ drop (i + 4) bytes.old }
 {
-    bytes[i] = (w % 256) as u8;
-    bytes[i + 1] = (w / 256 % 256) as u8;
-    bytes[i + 2] = (w / 65536 % 256) as u8;
-    bytes[i + 3] = (w / 16777216 % 256) as u8;
+    bytes[i..i + 4].copy_from_slice(&w.to_le_bytes());
 }
 
-// Reads as many words as there are and `words` has room for, and answers how many. Past these `words` stays as lent.
+// What is stored as a word of four bytes: a word as it is, a float by its bits.
+pub trait Entry: Copy {
+    ghost of_word: { ℕ → Self };
+
+    ghost word_of: { Self → ℕ };
+
+    fn from_word(w: u32) -> Self
+        ensures { result ≡ of_word w };
+
+    fn to_word(self) -> u32
+        ensures { result ≡ word_of self };
+}
+
+impl Entry for u32 {
+    ghost of_word = { λ w. w };
+
+    ghost word_of = { λ w. w };
+
+    fn from_word(w: u32) -> u32 {
+        w
+    }
+
+    fn to_word(self) -> u32 {
+        self
+    }
+}
+
+impl Entry for f32 {
+    ghost of_word = { from_bits binary32 };
+
+    ghost word_of = { to_bits binary32 };
+
+    fn from_word(w: u32) -> f32 {
+        float::from_bits(w)
+    }
+
+    fn to_word(self) -> u32 {
+        float::to_bits(self)
+    }
+}
+
+// Reads as many entries as there are and fit, and answers how many. Past these `out` stays as lent.
+pub fn read<T: Entry>(bytes: &[u8], out: &mut [T]) -> usize
+    ensures { Writes (read_as T.of_word bytes.now) out result }
+{
+    let n = (bytes.len() / 4).min(out.len());
+    for i in 0..n {
+        out[i] = T::from_word(word_at(bytes, i * 4));
+    }
+    n
+}
+
+// Writes as many entries as there are and fit, and answers how many. Past these `bytes` stays as lent.
+pub fn write<T: Entry>(entries: &[T], bytes: &mut [u8]) -> usize
+    ensures { WroteAs T.word_of entries.now bytes.old bytes.new result }
+{
+    let n = entries.len().min(bytes.len() / 4);
+    for i in 0..n {
+        put_word(bytes, i * 4, entries[i].to_word());
+    }
+    n
+}
+
 pub fn read_words(bytes: &[u8], words: &mut [u32]) -> usize
     ensures { Writes (words_in bytes.now) words result }
 {
-    let n = least(bytes.len() / 4, words.len());
-    let mut i = 0;
-    while i < n {
-        words[i] = word_at(bytes, i * 4);
-        i += 1;
-    }
-    n
+    read(bytes, words)
 }
 
-// Reads as many floats as there are and `floats` has room for, and answers how many. Past these `floats` stays as lent.
 pub fn read_floats(bytes: &[u8], floats: &mut [f32]) -> usize
     ensures { Writes (floats_in bytes.now) floats result }
 {
-    let n = least(bytes.len() / 4, floats.len());
-    let mut i = 0;
-    while i < n {
-        floats[i] = float::from_bits(word_at(bytes, i * 4));
-        i += 1;
-    }
-    n
+    read(bytes, floats)
 }
 
-// Writes as many words as there are and `bytes` has room for, and answers how many. Past these `bytes` stays as lent.
 pub fn write_words(words: &[u32], bytes: &mut [u8]) -> usize
     ensures { WritesWords words bytes result }
 {
-    let n = least(words.len(), bytes.len() / 4);
-    let mut i = 0;
-    while i < n {
-        put_word(bytes, i * 4, words[i]);
-        i += 1;
-    }
-    n
+    write(words, bytes)
 }
 
-// Writes as many floats as there are and `bytes` has room for, and answers how many. Past these `bytes` stays as lent.
 pub fn write_floats(floats: &[f32], bytes: &mut [u8]) -> usize
     ensures { WritesFloats floats bytes result }
 {
-    let n = least(floats.len(), bytes.len() / 4);
-    let mut i = 0;
-    while i < n {
-        put_word(bytes, i * 4, float::to_bits(floats[i]));
-        i += 1;
-    }
-    n
+    write(floats, bytes)
 }

@@ -1,6 +1,6 @@
 -- What `posed_node_transforms` answers and leaves, from a pose that is given: scope, "Placed pieces" and "Numbers when
 -- a piece is turned down". Definitions only.
-use Rattle.std.specs.Prelude.{◌≡◌, List, ◌++◌, ℕ, ◌*◌, ◌/◌, min, eqb, Float, length, drop, replicate}
+use Rattle.std.specs.Prelude.{◌≡◌, List, ◌++◌, ℕ, ◌*◌, ◌/◌, min, eqb, Float, length, drop, replicate, Result, Ok, Err}
 use Rattle.std.proofs.Math.Option.{none}
 use Rattle.borrowed.specs.Slices.{Change}
 use Rattle.model.specs.Lists.{pick, tabulate}
@@ -10,6 +10,8 @@ use Rattle.model.specs.Pose.{Pose}
 use Rattle.model.specs.Placing.{order, places, taken}
 use Rattle.model.specs.World.{worlds_from, worlds}
 use Rattle.model.specs.Refusals.{Scratch, place_number}
+use Rattle.refusals.specs.declared.Refusal.{Refusal}
+use Rattle.refusals.specs.Drawn.{number_of}
 use Rattle.tables.specs.Decoded.{Lent, scene_of}
 use Rattle.tables.specs.Codes.{codes_of}
 use Rattle.checks.specs.Drawn.{tables_number}
@@ -45,6 +47,11 @@ pub record Run (s : Scene) (local : ℕ → Matrix) (walk_room code_slots : Chan
       ≡ slots_of (worlds_from local (replicate (node_count s) none) (order s))
       ++ drop (node_count s * 16) world_slots.from
   pub entries : taken' ≡ taken s
+
+-- what a C function answers
+abbrev pub answer_of : Result ℕ Refusal → Answer
+answer_of (Ok taken') = record { number = 0; taken = taken' }
+answer_of (Err r) = record { number = number_of r; taken = 0 }
 
 -- The number, and the entries taken or 0; refused, nothing is changed.
 pub record NodesPlaced (l : Lent) (marks : List ℕ) (slots : List Float) (walk_room code_slots : Change (List ℕ))

@@ -7,9 +7,9 @@ ghost use Rattle.model.specs.Limits.{node_limit};
 ghost use Rattle.checks.specs.Drawn.{scene_lent};
 ghost use Rattle.placing.specs.Walk.{listing_in, entries_of};
 ghost use Rattle.worlds.specs.Posed.{local_in};
-ghost use Rattle.worlds.specs.Placed.{Run, NodesPlaced};
+ghost use Rattle.worlds.specs.Placed.{Run, answer_of, NodesPlaced};
 
-use refusals::NODE_LIMIT;
+use refusals::{NODE_LIMIT, Refusal};
 use tables::{Graph, Header};
 
 mod numbers;
@@ -18,12 +18,26 @@ mod slots;
 
 pub use numbers::{is_short, is_short_for};
 
-// A refusal number, or 0, and how many entries were taken.
+// A refusal number, or 0, and how many entries were taken: what a C function answers.
 #[repr(C)]
 #[derive(Clone, Copy)]
 pub struct Answer {
     pub number: u32,
     pub taken: usize,
+}
+
+impl From<Result<usize, Refusal>> for Answer {
+    ghost from_gives = { λ r a. a ≡ answer_of r };
+
+    fn from(r: Result<usize, Refusal>) -> Answer {
+        match r {
+            Ok(taken) => Answer { number: 0, taken },
+            Err(e) => Answer {
+                number: u32::from(e),
+                taken: 0,
+            },
+        }
+    }
 }
 
 // Places the nodes, and writes the world of each: a stage, for tables and room that have been checked.
@@ -62,7 +76,8 @@ pub fn place_all(
     run.taken
 }
 
-// Where every node stands, in the given pose: the code of its place in `places`, and its world in `worlds`.
+// Where every node stands, in the given pose: the code of its place in `places`, and its world in `worlds`. Answers how
+// many entries were taken.
 pub fn posed_node_transforms(
     words: &[u32],
     floats: &[f32],
@@ -74,11 +89,11 @@ pub fn posed_node_transforms(
     walk: &mut [u32],
     places: &mut [u32],
     worlds: &mut [f32],
-) -> Answer
+) -> Result<usize, Refusal>
     ensures { NodesPlaced (scene_lent words floats node_weights mesh_weights h) marks.now
-        slots.now (change walk) (change places) (change worlds) result }
+        slots.now (change walk) (change places) (change worlds) (answer_of result) }
 {
-    let number = numbers::place_number(
+    numbers::check_place(
         words,
         floats,
         node_weights,
@@ -87,10 +102,7 @@ pub fn posed_node_transforms(
         walk.len() / 2,
         wire::least(marks.len() / 4, slots.len() / 10),
         wire::least(places.len(), worlds.len() / 16),
-    );
-    if number != 0 {
-        return Answer { number, taken: 0 };
-    }
+    )?;
     let taken = place_all(words, floats, h.graph, marks, slots, walk, places, worlds);
-    Answer { number: 0, taken }
+    Ok(taken)
 }

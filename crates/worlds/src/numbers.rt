@@ -1,9 +1,10 @@
 ghost use Rattle.std.specs.Prelude.{◌≡◌, ◌+◌, ltb};
+ghost use Rattle.refusals.specs.Drawn.{number_drawn};
 ghost use Rattle.checks.specs.Drawn.{scene_lent};
 ghost use Rattle.worlds.specs.Rooms.{short_for, short_in};
 ghost use Rattle.worlds.specs.Placed.{place_number_for};
 
-use refusals::SHORT_SCRATCH;
+use refusals::Refusal;
 use tables::{Graph, Header};
 
 // Whether there is room for fewer entries than roots and children.
@@ -43,8 +44,8 @@ pub fn is_short(words: &[u32], graph: Graph, walk: usize, poses: usize, worlds: 
     )
 }
 
-// The number of a placing from a given pose, with room for so many entries, poses and worlds.
-pub(crate) fn place_number(
+// What a placing draws, from a given pose, with room for so many entries, poses and worlds.
+pub(crate) fn check_place(
     words: &[u32],
     floats: &[f32],
     node_weights: &[f32],
@@ -53,16 +54,13 @@ pub(crate) fn place_number(
     walk: usize,
     poses: usize,
     worlds: usize,
-) -> u32
-    ensures { result ≡ place_number_for (scene_lent words floats node_weights mesh_weights h)
+) -> Result<(), Refusal>
+    ensures { number_drawn result ≡ place_number_for (scene_lent words floats node_weights mesh_weights h)
         (record { walk_room = walk; pose_slots = poses; world_slots = worlds }) }
 {
-    let drawn = checks::tables_number(words, floats, node_weights, mesh_weights, h);
-    if drawn != 0 {
-        return drawn;
-    }
+    checks::check_tables(words, floats, node_weights, mesh_weights, h)?;
     if is_short(words, h.graph, walk, poses, worlds) {
-        return SHORT_SCRATCH;
+        return Err(Refusal::ShortScratch);
     }
-    0
+    Ok(())
 }

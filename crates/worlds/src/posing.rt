@@ -45,13 +45,11 @@ pub(crate) fn place_worlds(
     ensures { worlds.new ≡ placed_in_order words floats nodes marks slots places order
         worlds.old }
 {
-    let mut k = 0;
-    while k < order.len() {
+    for k in 0..order.len() {
         let id = order[k];
         let i = wide(id);
         let local = local_matrix(words, floats, nodes, marks, slots, i);
         place_one(worlds, id, word(places, i), local);
-        k += 1;
     }
 }
 
@@ -69,6 +67,6 @@ pub(crate) fn write_worlds(
     ensures { worlds.new ≡ placed_in_order words floats nodes marks slots places order
         (replicate (length worlds.old) zero32) }
 {
-    tables::wipe_floats(worlds);
+    worlds.fill(0.0);
     place_worlds(words, floats, nodes, marks, slots, places, order, worlds);
 }

@@ -1,4 +1,6 @@
 use mathlib.Core.Path.{refl, sym, ap, ◌∙◌, subst}
+use mathlib.Core.List.{List}
+use lib.Ieee.{Float}
 use Prim.Native.Nat.{ℕ, ◌/◌}
 use lib.ListN.{length}
 use Rattle.model.specs.Lists.{pick, is_some}
@@ -10,100 +12,122 @@ use Rattle.checks.specs.Drawn.{lent_as, tables_number}
 use Rattle.shapes.specs.Rest.{lengths_below, Counted}
 use Rattle.bake_stages.specs.Scratch.{Slices}
 use Rattle.bake_stages.proofs.Drawing.{ready}
-use Rattle.bake.specs.Baked.{Room}
+use Rattle.std.proofs.Common.{◌≡◌, Result, Err}
+use Rattle.refusals.specs.declared.Refusal.{Refusal}
+use Rattle.refusals.proofs.Told.{not-none, passed-on}
+use Rattle.bake.specs.declared.Put.{Put}
+use Rattle.bake.specs.Baked.{Room, Change, told_by, Baked}
 use Rattle.bake.proofs.Judging.{refused-first}
 use Rattle.bake.proofs.Whole.{said, none-early, draw, skeletons, long-enough, turned_down, fit-true, done}
-use Rattle.bake.proofs.world_mesh_at.Lts
-use Rattle.bake.proofs.world_mesh_at.Reads
-use Rattle.bake.proofs.world_mesh_at.Tie
 use Rattle.bake.proofs.world_mesh_at.Goals as goal
 
-abbrev Start : Type 0
-Start = Lts.Start Tie.the-claims Reads.Pre Reads.Post
+abbrev slices : List ℕ → List Float → List ℕ → List ℕ → List Float → Slices
+slices marks slots walk places worlds =
+    record { marks = marks; slots = slots; walk = walk; places = places; worlds = worlds }
 
-abbrev lent_of : Start → Lent
-lent_of s = lent_as s.args.words.now s.args.floats.now s.args.node_weights.now s.args.mesh_weights.now s.args.h
+abbrev room_lent : Slices → List Float → List Float → List Float → Room
+room_lent s positions normals tangents =
+    record { scratch = s; output = record { positions = positions; normals = normals; tangents = tangents } }
 
-abbrev slices_of : Start → Slices
-slices_of s = record { marks = s.args.marks.now; slots = s.args.slots.now; walk = s.args.walk.now; places = s.args.places.now; worlds = s.args.worlds.now }
+-- what is drawn first, with the room as it was counted
+abbrev counted : (l : Lent) (node : ℕ) (time : Float) (walk a b : ℕ) → ℕ
+counted l node time walk a b =
+    lowest (early_number (tables_number l) (scene_of l) time (record { walk_room = walk / 2; pose_slots = a; world_slots = b }))
+    (pick (is_some (mesh_at (scene_of l) node)) 0 7)
 
-abbrev room_lent : Start → Room
-room_lent s = record { scratch = slices_of s; output = record { positions = s.args.positions.now; normals = s.args.normals.now; tangents = s.args.tangents.now } }
+-- said of what a `?` passes on
+told-as : {l : Lent} {i : ℕ} {time : Float} {c : Change} (t : Result Put Refusal) (e : Refusal) → t ≡ Err e
+    → Baked l i time c (told_by (Err e)) → Baked l i time c (told_by t)
+told-as {l} {i} {time} {c} t e q h = subst (λ (u : Result Put Refusal). Baked l i time c (told_by u)) (sym q) h
 
--- the number that is drawn first, with the room as it was counted
-abbrev counted : (s : Start) (a b : ℕ) → ℕ
-counted s a b =
-    lowest (early_number (tables_number (lent_of s)) (scene_of (lent_of s)) s.args.time (record { walk_room = length s.args.walk.now / 2; pose_slots = a; world_slots = b }))
-    (pick (is_some (mesh_at (scene_of (lent_of s)) s.args.node)) 0 7)
-
-pub returns-then-number-ne0 : goal.returns-then-number-ne0
-returns-then-number-ne0 c =
-    let s = c.before.before.before.before.before.before.before.before.before.before.before.before.before.before.before.before.before.before in
-    said (lent_of s) s.args.node s.args.time (room_lent s) (room_lent s) (room_lent s) _ _ refl c.refused.ensures
-    (refused-first (lent_of s) s.args.node s.args.time (room_lent s) _ (c.first_number-number.ensures ∙ (λ j. counted s (c.least.ensures j) (c.least-2.ensures j))) c.if-number-ne0.true)
+pub returns-in_err-check_first : goal.returns-in_err-check_first
+returns-in_err-check_first c =
+    let a = c.args in
+    let l = lent_as a.words.now a.floats.now a.node_weights.now a.mesh_weights.now a.h in
+    let s = slices a.marks.now a.slots.now a.walk.now a.places.now a.worlds.now in
+    let r = room_lent s a.positions.now a.normals.now a.tangents.now in
+    let e = c.in_err-check_first.field-0.0 in
+    told-as _ e (passed-on _ e c.from_residual.ensures.1)
+    (refused-first l a.node a.time r _
+    (c.in_err-check_first.ensures ∙ (λ j. counted l a.node a.time (length a.walk.now) (c.least.ensures j) (c.least-2.ensures j)))
+    (not-none e))
 
 pub pose_and_place-taken-requires : goal.pose_and_place-taken-requires
 pose_and_place-taken-requires c =
-    let s = c.before.before.before.before.before.before.before.before.before.before.before.before.before.before.before.before.before.before.before.before.before.before in
-    let z = sym (c.first_number-number.ensures ∙ (λ j. counted s (c.least.ensures j) (c.least-2.ensures j))) ∙ c.if-number-ne0.false in
-    ready (lent_of s) s.args.time (slices_of s) (none-early (lent_of s) s.args.node s.args.time (room_lent s) z)
+    let a = c.args in
+    let l = lent_as a.words.now a.floats.now a.node_weights.now a.mesh_weights.now a.h in
+    let s = slices a.marks.now a.slots.now a.walk.now a.places.now a.worlds.now in
+    let r = room_lent s a.positions.now a.normals.now a.tangents.now in
+    let z = sym (c.in_ok-check_first.ensures ∙ (λ j. counted l a.node a.time (length a.walk.now) (c.least.ensures j) (c.least-2.ensures j))) in
+    ready l a.time s (none-early l a.node a.time r z)
 
 pub mesh_lengths-n-requires : goal.mesh_lengths-n-requires
 mesh_lengths-n-requires c =
-    let s = c.before.before.before.before.before.before.before.before.before.before.before.before.before.before.before.before.before.before.before.before.before.before.before.before.before.before.before.before.before.before.before.before.before.before.before.before in
-    let z = sym (c.first_number-number.ensures ∙ (λ j. counted s (c.least.ensures j) (c.least-2.ensures j))) ∙ c.if-number-ne0.false in
-    subst (λ (m : MeshRow). Counted s.args.words.now s.args.h.meshes.primitives m.primitives) (sym c.mesh_of-mesh.ensures)
-    (draw (lent_of s) s.args.node s.args.time (room_lent s) z).counted
+    let a = c.args in
+    let l = lent_as a.words.now a.floats.now a.node_weights.now a.mesh_weights.now a.h in
+    let s = slices a.marks.now a.slots.now a.walk.now a.places.now a.worlds.now in
+    let r = room_lent s a.positions.now a.normals.now a.tangents.now in
+    let z = sym (c.in_ok-check_first.ensures ∙ (λ j. counted l a.node a.time (length a.walk.now) (c.least.ensures j) (c.least-2.ensures j))) in
+    subst (λ (m : MeshRow). Counted a.words.now a.h.meshes.primitives m.primitives) (sym c.mesh_of-mesh.ensures)
+    (draw l a.node a.time r z).counted
 
-pub returns-then-late-ne0 : goal.returns-then-late-ne0
-returns-then-late-ne0 c =
-    let s = c.before.before.before.before.before.before.before.before.before.before.before.before.before.before.before.before.before.before.before.before.before.before.before.before.before.before.before.before.before.before.before.before.before.before.before.before.before.before.before.before.before in
-    let l = lent_of s in
-    let z = sym (c.first_number-number.ensures ∙ (λ j. counted s (c.least.ensures j) (c.least-2.ensures j))) ∙ c.if-number-ne0.false in
-    let n = c.mesh_lengths-n.ensures ∙ ap (λ (m : MeshRow). lengths_below s.args.words.now s.args.h.meshes.primitives m.primitives m.primitives.count) c.mesh_of-mesh.ensures in
-    turned_down l s.args.node s.args.time (room_lent s) z _ n _ c.fits-fit.ensures _
-    (c.pose_and_place-taken.ensures s.args.node_weights.now s.args.mesh_weights.now).1 _
-    (c.late_number-late.ensures s.args.node_weights.now s.args.mesh_weights.now _) c.if-late-ne0.true _ c.refused-then-late-ne0.ensures
+pub returns-in_err-check_late : goal.returns-in_err-check_late
+returns-in_err-check_late c =
+    let a = c.args in
+    let l = lent_as a.words.now a.floats.now a.node_weights.now a.mesh_weights.now a.h in
+    let s = slices a.marks.now a.slots.now a.walk.now a.places.now a.worlds.now in
+    let r = room_lent s a.positions.now a.normals.now a.tangents.now in
+    let z = sym (c.in_ok-check_first.ensures ∙ (λ j. counted l a.node a.time (length a.walk.now) (c.least.ensures j) (c.least-2.ensures j))) in
+    let n = c.mesh_lengths-n.ensures ∙ ap (λ (m : MeshRow). lengths_below a.words.now a.h.meshes.primitives m.primitives m.primitives.count) c.mesh_of-mesh.ensures in
+    let e = c.in_err-check_late.field-0.0 in
+    told-as _ e (passed-on _ e c.from_residual-in_err-check_late.ensures.1)
+    (turned_down l a.node a.time r z _ n _ c.fits-fit.ensures _
+    (c.pose_and_place-taken.ensures a.node_weights.now a.mesh_weights.now).1 _
+    (c.in_err-check_late.ensures a.node_weights.now a.mesh_weights.now _) (not-none e) _ refl)
 
 pub deliver-requires : goal.deliver-requires
 deliver-requires c =
-    let s = c.before.before.before.before.before.before.before.before.before.before.before.before.before.before.before.before.before.before.before.before.before.before.before.before.before.before.before.before.before.before.before.before.before.before.before.before.before.before.before.before.before.before.before in
-    let l = lent_of s in
-    let z = sym (c.first_number-number.ensures ∙ (λ j. counted s (c.least.ensures j) (c.least-2.ensures j))) ∙ c.if-number-ne0.false in
-    let n = c.mesh_lengths-n.ensures ∙ ap (λ (m : MeshRow). lengths_below s.args.words.now s.args.h.meshes.primitives m.primitives m.primitives.count) c.mesh_of-mesh.ensures in
+    let a = c.args in
+    let l = lent_as a.words.now a.floats.now a.node_weights.now a.mesh_weights.now a.h in
+    let s = slices a.marks.now a.slots.now a.walk.now a.places.now a.worlds.now in
+    let r = room_lent s a.positions.now a.normals.now a.tangents.now in
+    let z = sym (c.in_ok-check_first.ensures ∙ (λ j. counted l a.node a.time (length a.walk.now) (c.least.ensures j) (c.least-2.ensures j))) in
+    let n = c.mesh_lengths-n.ensures ∙ ap (λ (m : MeshRow). lengths_below a.words.now a.h.meshes.primitives m.primitives m.primitives.count) c.mesh_of-mesh.ensures in
     let fit = c.fits-fit.ensures in (
-      draw l s.args.node s.args.time (room_lent s) z,
-      long-enough l s.args.node s.args.time (room_lent s) z _ n _ fit
-          (fit-true l s.args.node s.args.time (room_lent s) z _ n _ fit _
-          (c.pose_and_place-taken.ensures s.args.node_weights.now s.args.mesh_weights.now).1 _
-          (c.late_number-late.ensures s.args.node_weights.now s.args.mesh_weights.now _) c.if-late-ne0.false),
-      skeletons l s.args.node s.args.time (room_lent s) z,
+      draw l a.node a.time r z,
+      long-enough l a.node a.time r z _ n _ fit
+          (fit-true l a.node a.time r z _ n _ fit _
+          (c.pose_and_place-taken.ensures a.node_weights.now a.mesh_weights.now).1 _
+          (c.in_ok-check_late.ensures a.node_weights.now a.mesh_weights.now _) refl),
+      skeletons l a.node a.time r z,
     )
 
 pub returns : goal.returns
 returns c =
-    let s = c.before.before.before.before.before.before.before.before.before.before.before.before.before.before.before.before.before.before.before.before.before.before.before.before.before.before.before.before.before.before.before.before.before.before.before.before.before.before.before.before.before.before.before.before.before.before.before.before.before.before in
-    let l = lent_of s in
-    let z = sym (c.first_number-number.ensures ∙ (λ j. counted s (c.least.ensures j) (c.least-2.ensures j))) ∙ c.if-number-ne0.false in
-    let n = c.mesh_lengths-n.ensures ∙ ap (λ (m : MeshRow). lengths_below s.args.words.now s.args.h.meshes.primitives m.primitives m.primitives.count) c.mesh_of-mesh.ensures in
-    let placed = c.pose_and_place-taken.ensures s.args.node_weights.now s.args.mesh_weights.now in
-    done l s.args.node s.args.time (room_lent s) z _ n _ c.fits-fit.ensures _ placed.1 _
-    (c.late_number-late.ensures s.args.node_weights.now s.args.mesh_weights.now _) c.if-late-ne0.false _ placed.0 _ _ _ c.deliver.ensures
+    let a = c.args in
+    let l = lent_as a.words.now a.floats.now a.node_weights.now a.mesh_weights.now a.h in
+    let s = slices a.marks.now a.slots.now a.walk.now a.places.now a.worlds.now in
+    let r = room_lent s a.positions.now a.normals.now a.tangents.now in
+    let z = sym (c.in_ok-check_first.ensures ∙ (λ j. counted l a.node a.time (length a.walk.now) (c.least.ensures j) (c.least-2.ensures j))) in
+    let n = c.mesh_lengths-n.ensures ∙ ap (λ (m : MeshRow). lengths_below a.words.now a.h.meshes.primitives m.primitives m.primitives.count) c.mesh_of-mesh.ensures in
+    let placed = c.pose_and_place-taken.ensures a.node_weights.now a.mesh_weights.now in
+    done l a.node a.time r z _ n _ c.fits-fit.ensures _ placed.1 _
+    (c.in_ok-check_late.ensures a.node_weights.now a.mesh_weights.now _) refl _ placed.0 _ _ _ c.deliver.ensures
 
-pub shape_of-marks-then-late-ne0 : goal.shape_of-marks-then-late-ne0
-shape_of-marks-then-late-ne0 c = c.pose_and_place-taken.auto.marks
+pub shape_of-marks-in_err-check_late : goal.shape_of-marks-in_err-check_late
+shape_of-marks-in_err-check_late c = c.pose_and_place-taken.auto.marks
 
-pub shape_of-slots-then-late-ne0 : goal.shape_of-slots-then-late-ne0
-shape_of-slots-then-late-ne0 c = c.pose_and_place-taken.auto.slots
+pub shape_of-slots-in_err-check_late : goal.shape_of-slots-in_err-check_late
+shape_of-slots-in_err-check_late c = c.pose_and_place-taken.auto.slots
 
-pub shape_of-walk-then-late-ne0 : goal.shape_of-walk-then-late-ne0
-shape_of-walk-then-late-ne0 c = c.pose_and_place-taken.auto.walk
+pub shape_of-walk-in_err-check_late : goal.shape_of-walk-in_err-check_late
+shape_of-walk-in_err-check_late c = c.pose_and_place-taken.auto.walk
 
-pub shape_of-places-then-late-ne0 : goal.shape_of-places-then-late-ne0
-shape_of-places-then-late-ne0 c = c.pose_and_place-taken.auto.places
+pub shape_of-places-in_err-check_late : goal.shape_of-places-in_err-check_late
+shape_of-places-in_err-check_late c = c.pose_and_place-taken.auto.places
 
-pub shape_of-worlds-then-late-ne0 : goal.shape_of-worlds-then-late-ne0
-shape_of-worlds-then-late-ne0 c = c.pose_and_place-taken.auto.worlds
+pub shape_of-worlds-in_err-check_late : goal.shape_of-worlds-in_err-check_late
+shape_of-worlds-in_err-check_late c = c.pose_and_place-taken.auto.worlds
 
 pub shape_of-marks : goal.shape_of-marks
 shape_of-marks c = c.pose_and_place-taken.auto.marks

@@ -7,6 +7,3 @@ use Rattle.byte_tracks.proofs.keys_in_line.Given as goal
 
 abbrev pub invariant-loop-i : goal.invariant-loop-i
 invariant-loop-i l = (l.count ≡ length l.keys / 4) × Tested (floats_in l.keys) l.last l.rising l.i
-
-abbrev pub decreases-loop-i : goal.decreases-loop-i
-decreases-loop-i l = l.count - l.i

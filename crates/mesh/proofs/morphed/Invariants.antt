@@ -14,6 +14,3 @@ invariant-loop-k l =
     × (length l.normals ≡ length l.initial.normals)
     × (length l.tangents ≡ length l.initial.tangents)
     × Morphed (with_targets (take l.k (targets_in l.words l.floats l.h l.targets)) (take l.k l.weights) (attributes_in l.initial.positions l.initial.normals l.initial.tangents)) l.initial.positions l.positions l.initial.normals l.normals l.initial.tangents l.tangents
-
-abbrev pub decreases-loop-k : goal.decreases-loop-k
-decreases-loop-k l = l.n - l.k

@@ -17,7 +17,7 @@ returns c =
     let p = c.push.ensures in
     let r = c.words_in.ensures in
     record {
-      places = c.wipe_words.ensures;
+      places = c.fill.ensures.after (λ _ e. e);
       higher = omega (arith, p.higher, ap length r);
       walk = p.walk ∙ ap (λ (l : List ℕ). paste c.args.walk.now 0 (words_for 1 l) (2 * length l)) r;
       stack = p.stack ∙ append-nil _ ∙ ap (λ (l : List ℕ). listed_as 1 l) r;

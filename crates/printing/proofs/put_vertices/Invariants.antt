@@ -1,11 +1,12 @@
-use Prim.Native.Nat.{◌-◌}
+use mathlib.Core.Path.{◌≡◌}
 use lib.ListN.{length}
-use Rattle.spelling.specs.Pushed.{out_at}
-use Rattle.printing.proofs.LineLaws.{Going}
+use Rattle.spelling.specs.Pushed.{out_at, pushes}
+use Rattle.printing.specs.Lines.{vertices_text}
 use Rattle.printing.proofs.put_vertices.Given as goal
 
-abbrev pub invariant-loop-i : goal.invariant-loop-i
-invariant-loop-i l = Going l.positions (out_at l.initial.out 0) (out_at l.out l.k) l.i
+abbrev pub invariant-loop-left : goal.invariant-loop-left
+invariant-loop-left l =
+    pushes (vertices_text l.left) (out_at l.out l.k) ≡ pushes (vertices_text l.positions) (out_at l.initial.out 0)
 
-abbrev pub decreases-loop-i : goal.decreases-loop-i
-decreases-loop-i l = length l.positions - l.i
+abbrev pub decreases-loop-left : goal.decreases-loop-left
+decreases-loop-left l = length l.left

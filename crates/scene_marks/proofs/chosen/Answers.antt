@@ -1,4 +1,3 @@
-use Prim.Native.Nat.{◌-◌}
 use native.Mathlib.Omega.{arith}
 use Rattle.scene_marks.proofs.MarkLaws.{choosing-starts, choosing-on, choosing-found, choosing-ends}
 use Rattle.scene_marks.proofs.chosen.Goals as goal

@@ -1,4 +1,3 @@
-use Prim.Native.Nat.{◌-◌}
 use native.Mathlib.Omega.{arith}
 use Rattle.scene_marks.proofs.KindLaws.{kind-of-slot, grouping-starts, grouping-on}
 use Rattle.scene_marks.proofs.KindLaws.{grouping-fails, grouping-ends}

@@ -1,4 +1,3 @@
-use Prim.Native.Nat.{◌-◌}
 use Rattle.scene_marks.proofs.MarkLaws.{counting-starts, counting-on, counting_more, counting-ends}
 use Rattle.scene_marks.proofs.present.Goals.{then-m-ne0, else-m-ne0}
 use Rattle.scene_marks.proofs.present.Goals as goal

@@ -1,4 +1,3 @@
-use Prim.Native.Nat.{◌-◌}
 use native.Mathlib.Omega.{arith}
 use Rattle.scene_marks.specs.Marks.{row_of}
 use Rattle.scene_marks.proofs.MarkLaws.{sets-out}
@@ -23,12 +22,6 @@ overflow_add-at c = omega (arith, kind-of-word c.args.k c.loop-w.w (omega arith)
 
 pub word_at-requires : goal.word_at-requires
 word_at-requires c = kind-of-word c.args.k c.loop-w.w (omega arith)
-
-pub overflow_add-w : goal.overflow_add-w
-overflow_add-w c = omega (arith, kind-of-word c.args.k c.loop-w.w (omega arith))
-
-pub loop-w-smaller : goal.loop-w-smaller
-loop-w-smaller c = omega arith
 
 pub shape_of-words : goal.shape_of-words
 shape_of-words c = putting-length c.loop-w.invariant

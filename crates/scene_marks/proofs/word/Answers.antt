@@ -5,7 +5,7 @@ use lib.ListN.{get_or}
 use Rattle.scene_schema.specs.declared.Source.{Source}
 use Rattle.scene_schema.specs.Numbers.{slot_rules, no_rule}
 use Rattle.scene_marks.specs.declared.Mark.{Mark}
-use Rattle.scene_marks.specs.Marks.{mark_at, chosen, entries_in, word_from}
+use Rattle.scene_marks.specs.Marks.{mark_at, entries_in, word_from}
 use Rattle.scene_marks.proofs.word.Goals as goal
 
 module _ (k : ℕ) (marks : List ℕ) where
@@ -18,13 +18,12 @@ module _ (k : ℕ) (marks : List ℕ) where
 pub returns-in-Tag : goal.returns-in-Tag
 returns-in-Tag c =
     let a = c.args in
-    c.chosen.ensures.0 ∙ (λ l. chosen a.marks.now (c.wide.ensures.0 l) (c.wide-in-Tag.ensures.0 l))
-    ∙ told a.k a.marks.now c.in-Tag.is
+    c.chosen.ensures.0 ∙ told a.k a.marks.now c.in-Tag.is
 
 pub returns-in-Mark : goal.returns-in-Mark
 returns-in-Mark c =
     let a = c.args in
-    ap (λ (m : Mark). m.there) (mark a.k a.marks.now c.mark_at-m.ensures c.wide-in-Mark.ensures.0)
+    ap (λ (m : Mark). m.there) c.mark_at-m.ensures
     ∙ told a.k a.marks.now c.in-Mark.is
 
 pub returns-in-Start : goal.returns-in-Start
@@ -45,11 +44,11 @@ returns-in-Entries c =
 pub returns-in-First : goal.returns-in-First
 returns-in-First c =
     let a = c.args in
-    ap (λ (m : Mark). m.first) (mark a.k a.marks.now c.mark_at-m-in-First.ensures c.wide-in-First.ensures.0)
+    ap (λ (m : Mark). m.first) c.mark_at-m-in-First.ensures
     ∙ told a.k a.marks.now c.in-First.is
 
 pub returns-in-Second : goal.returns-in-Second
 returns-in-Second c =
     let a = c.args in
-    ap (λ (m : Mark). m.second) (mark a.k a.marks.now c.mark_at-m-in-Second.ensures c.wide-in-Second.ensures.0)
+    ap (λ (m : Mark). m.second) c.mark_at-m-in-Second.ensures
     ∙ told a.k a.marks.now c.in-Second.is

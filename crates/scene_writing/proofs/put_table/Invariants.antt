@@ -7,6 +7,3 @@ use Rattle.scene_writing.proofs.put_table.Given as goal
 abbrev pub invariant-loop-i : goal.invariant-loop-i
 invariant-loop-i l =
     Putting (lent_as l.words l.floats l.node_weights l.mesh_weights l.h) l.t l.k (out_at l.initial.out l.at) (out_at l.out l.next) l.i
-
-abbrev pub decreases-loop-i : goal.decreases-loop-i
-decreases-loop-i l = l.t.count - l.i

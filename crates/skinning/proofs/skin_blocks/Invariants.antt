@@ -1,5 +1,5 @@
 use mathlib.Core.Path.{◌≡◌}
-use Prim.Native.Nat.{◌-◌, ◌*◌, ◌/◌, ◌≤◌}
+use Prim.Native.Nat.{◌*◌, ◌/◌, ◌≤◌}
 use lib.ListN.{length}
 use Rattle.model.specs.Lists.{rows_in}
 use Rattle.skinning.specs.Moved.{FirstMoved}
@@ -13,6 +13,3 @@ invariant-loop-b l =
     × (length l.normals ≡ length l.initial.normals)
     × (length l.tangents ≡ length l.initial.tangents)
     × FirstMoved (rows_in 16 l.palette) (rows_in 4 l.joints) (rows_in 4 l.weights) (l.b * 16) l.initial.positions l.positions l.initial.normals l.normals l.initial.tangents l.tangents
-
-abbrev pub decreases-loop-b : goal.decreases-loop-b
-decreases-loop-b l = l.n - l.b

@@ -1,5 +1,5 @@
 use mathlib.Core.Path.{◌≡◌, refl, subst}
-use Prim.Native.Nat.{ℕ, ◌-◌}
+use Prim.Native.Nat.{ℕ}
 use native.Mathlib.Omega.{arith}
 use Rattle.model.specs.Lists.{rows_in}
 use Rattle.skinning.specs.Moved.{MovedFrom}
@@ -20,7 +20,7 @@ loop-i-preserved c =
       search rules,
       search rules,
       search rules,
-      next-vertex (rows_in 16 a.palette.now) (rows_in 4 a.joints.now) (rows_in 4 a.weights.now) a.k l.i _ c.joint_matrix-b.ensures a.positions.now l.positions _ a.normals.now l.normals _ a.tangents.now l.tangents _ l.invariant.4 c.skin_vertex.ensures,
+      next-vertex (rows_in 16 a.palette.now) (rows_in 4 a.joints.now) (rows_in 4 a.weights.now) a.k l.i _ c.joint_matrix-joint.ensures a.positions.now l.positions _ a.normals.now l.normals _ a.tangents.now l.tangents _ l.invariant.4 c.skin_vertex.ensures,
     )
 
 pub returns : goal.returns

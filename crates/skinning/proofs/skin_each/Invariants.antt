@@ -1,5 +1,5 @@
 use mathlib.Core.Path.{◌≡◌}
-use Prim.Native.Nat.{◌-◌, ◌≤◌}
+use Prim.Native.Nat.{◌≤◌}
 use lib.ListN.{length}
 use Rattle.model.specs.Lists.{rows_in}
 use Rattle.skinning.specs.Moved.{MovedFrom}
@@ -12,6 +12,3 @@ invariant-loop-i l =
     × (length l.normals ≡ length l.initial.normals)
     × (length l.tangents ≡ length l.initial.tangents)
     × MovedFrom (rows_in 16 l.palette) (rows_in 4 l.joints) (rows_in 4 l.weights) l.k l.i l.initial.positions l.positions l.initial.normals l.normals l.initial.tangents l.tangents
-
-abbrev pub decreases-loop-i : goal.decreases-loop-i
-decreases-loop-i l = l.n - l.i

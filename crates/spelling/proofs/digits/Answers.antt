@@ -7,7 +7,7 @@ use Rattle.spelling.proofs.DigitLaws.{digits_more, digits-none}
 use Rattle.spelling.proofs.digits.Goals as goal
 
 pub loop-k-init : goal.loop-k-init
-loop-k-init c = (refl, omega arith)
+loop-k-init c = refl
 
 pub letter-requires : goal.letter-requires
 letter-requires c =
@@ -16,10 +16,10 @@ letter-requires c =
 pub loop-k-preserved : goal.loop-k-preserved
 loop-k-preserved c =
     let e = digits_more _ _ _ _ _ c.loop-k-test.true c.letter.ensures c.store_byte.ensures in
-    (e ∙ c.loop-k.invariant.0, omega arith)
+    e ∙ c.loop-k.invariant
 
 pub shape_of-out : goal.shape_of-out
-shape_of-out c = simp length-sets at (ap length c.loop-k.invariant.0)
+shape_of-out c = simp length-sets at (ap length c.loop-k.invariant)
 
 pub returns : goal.returns
-returns c = sym (digits-none _ _ _ _ _ c.loop-k-test.false) ∙ c.loop-k.invariant.0
+returns c = sym (digits-none _ _ _ _ _ c.loop-k-test.false) ∙ c.loop-k.invariant

@@ -1,12 +1,8 @@
 use mathlib.Core.Path.{◌≡◌}
-use Prim.Native.Nat.{◌≤◌}
 use lib.Seq.{sets}
 use Rattle.grammar.specs.Digits.{last_digits}
 use Rattle.spelling.proofs.digits.Given as goal
 
 abbrev pub invariant-loop-k : goal.invariant-loop-k
 invariant-loop-k l =
-    (sets l.out l.at (last_digits l.base l.k l.m) ≡ sets l.initial.out l.at (last_digits l.base l.count l.n)) × (l.k ≤ l.count)
-
-abbrev pub decreases-loop-k : goal.decreases-loop-k
-decreases-loop-k l = l.k
+    sets l.out l.at (last_digits l.base l.k l.m) ≡ sets l.initial.out l.at (last_digits l.base l.count l.n)

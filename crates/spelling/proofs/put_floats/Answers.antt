@@ -1,6 +1,6 @@
 use mathlib.Core.Path.{refl, sym, ap, ◌∙◌}
 use mathlib.Core.List.{◌∷◌, map}
-use Prim.Native.Nat.{ℕ, ◌+◌, ◌-◌, ◌*◌, min}
+use Prim.Native.Nat.{ℕ, ◌+◌, ◌*◌, min}
 use native.Mathlib.Omega.{arith}
 use lib.Ieee.{Float, binary32, to_bits}
 use lib.Dec.{eqb}
@@ -17,16 +17,16 @@ parts : Parts text (λ (x : Float). 32 ∷ digits_of floats (to_bits binary32 x)
 unfolding items_text
 parts = record { none = refl; more = λ x xs. refl }
 
-pub loop-i-init : goal.loop-i-init
-loop-i-init c = refl
+pub loop-x-init : goal.loop-x-init
+loop-x-init c = refl
 
-pub loop-i-preserved : goal.loop-i-preserved
-loop-i-preserved c =
+pub loop-x-preserved : goal.loop-x-preserved
+loop-x-preserved c =
     let bits = ap (λ (n : ℕ). 32 ∷ digits_of floats n) c.to_bits.ensures in
-    going_more parts _ _ _ _ _ _ c.loop-i.invariant c.loop-i-test.true bits c.put_item-k.ensures
+    going_more parts _ _ _ _ _ _ c.loop-x.invariant c.loop-x-test.true bits c.put_item-k.ensures
 
 pub shape_of-out : goal.shape_of-out
-shape_of-out c = going-length _ _ _ _ c.loop-i.invariant
+shape_of-out c = going-length _ _ _ _ c.loop-x.invariant
 
 pub returns-then-out-at : goal.returns-then-out-at
 returns-then-out-at c =
@@ -38,4 +38,4 @@ returns-then-out-at c =
     (sym (length-map a.items.now (to_bits binary32))) ∙ floats-behind xs a.at)))
 
 pub returns : goal.returns
-returns c = going_done parts _ _ _ _ c.loop-i.invariant c.loop-i-test.false
+returns c = going_done parts _ _ _ _ c.loop-x.invariant c.loop-x-test.false

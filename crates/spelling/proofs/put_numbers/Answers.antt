@@ -1,6 +1,6 @@
 use mathlib.Core.Path.{refl, sym, ap, ◌∙◌}
 use mathlib.Core.List.{◌∷◌}
-use Prim.Native.Nat.{ℕ, ◌-◌}
+use Prim.Native.Nat.{ℕ}
 use native.Mathlib.Omega.{arith}
 use Rattle.grammar.specs.Digits.{numbers, digits_of, items_text}
 use Rattle.spelling.specs.Pushed.{out_at}
@@ -12,15 +12,15 @@ parts : Parts text (λ (n : ℕ). 32 ∷ digits_of numbers n)
 unfolding items_text
 parts = record { none = refl; more = λ x xs. refl }
 
-pub loop-i-init : goal.loop-i-init
-loop-i-init c = refl
+pub loop-n-init : goal.loop-n-init
+loop-n-init c = refl
 
-pub loop-i-preserved : goal.loop-i-preserved
-loop-i-preserved c =
-    going_more parts _ _ _ _ _ _ c.loop-i.invariant c.loop-i-test.true refl c.put_item-k.ensures
+pub loop-n-preserved : goal.loop-n-preserved
+loop-n-preserved c =
+    going_more parts _ _ _ _ _ _ c.loop-n.invariant c.loop-n-test.true refl c.put_item-k.ensures
 
 pub shape_of-out : goal.shape_of-out
-shape_of-out c = going-length _ _ _ _ c.loop-i.invariant
+shape_of-out c = going-length _ _ _ _ c.loop-n.invariant
 
 pub returns-then-out-at : goal.returns-then-out-at
 returns-then-out-at c =
@@ -29,4 +29,4 @@ returns-then-out-at c =
     ∙ ap (out_at a.out.now) (sym c.behind_numbers.ensures))
 
 pub returns : goal.returns
-returns c = going_done parts _ _ _ _ c.loop-i.invariant c.loop-i-test.false
+returns c = going_done parts _ _ _ _ c.loop-n.invariant c.loop-n-test.false

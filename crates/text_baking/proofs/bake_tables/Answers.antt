@@ -1,21 +1,27 @@
-use mathlib.Core.Path.{refl, sym}
+use mathlib.Core.Path.{refl, sym, ap, ◌∙◌}
+use Prim.Native.Nat.{ℕ}
 use lib.Seq.{length-take-le}
+use Rattle.refusals.proofs.Told.{not-none}
+use Rattle.spelling.specs.Pushed.{out_at, pushes}
+use Rattle.printing.specs.Lines.{number_text}
 use Rattle.text_baking.specs.Printed.{room}
 use Rattle.text_baking.proofs.Outcomes.{refused-put, inside, accepted-put}
 use Rattle.text_baking.proofs.bake_tables.Goals as goal
 
-pub returns-then-a-ne0 : goal.returns-then-a-ne0
-unfolding room
-returns-then-a-ne0 c = refused-put c.world_mesh_at-a.ensures refl _ c.if-a-ne0.true c.put_number.ensures
-
 pub slice_bounds-positions-end : goal.slice_bounds-positions-end
 unfolding room
-slice_bounds-positions-end c = inside c.world_mesh_at-a.ensures refl
+slice_bounds-positions-end c = inside c.in-Ok.ensures refl
 
 pub slice_bounds-put_vertices-end : goal.slice_bounds-put_vertices-end
 unfolding room
-slice_bounds-put_vertices-end c = sym (length-take-le _ _ (inside c.world_mesh_at-a.ensures refl))
+slice_bounds-put_vertices-end c = sym (length-take-le _ _ (inside c.in-Ok.ensures refl))
 
-pub returns : goal.returns
+pub returns-in-Ok : goal.returns-in-Ok
 unfolding room
-returns c = accepted-put c.world_mesh_at-a.ensures refl _ c.if-a-ne0.false c.put_vertices.ensures
+returns-in-Ok c = accepted-put c.in-Ok.ensures refl _ refl c.put_vertices.ensures
+
+pub returns-in-Err : goal.returns-in-Err
+unfolding room
+returns-in-Err c =
+    refused-put c.in-Err.ensures refl _ (not-none c.in-Err.refusal)
+    (c.put_number.ensures ∙ ap (λ (n : ℕ). pushes (number_text n) (out_at c.args.out.now 0)) c.from.ensures)

@@ -1,6 +1,7 @@
 -- The loop's invariant: v times what the steps that are left give from g on is the whole series.
 use borrow.Author.Rules.{rules}
 use mathlib.Core.Path.{◌≡◌, refl}
+use native.Mathlib.Omega.{arith}
 use Prim.Native.Nat.{ℕ, zero, suc, ◌-◌, ◌≤◌, ◌<◌}
 use native.Mathlib.Nat.{lt_irrefl, not-suc-le-zero}
 use native.Mathlib.Numerals.{sub-one}
@@ -30,4 +31,4 @@ pub loop-i-preserved : goal.loop-i-preserved
 loop-i-preserved c = (search rules, again _ _ _ _ _ _ _ c.loop-i-test.true c.series_step-g.ensures c.loop-i.invariant.1)
 
 pub returns : goal.returns
-returns c = ended _ _ _ _ _ _ c.loop-i-test.false c.loop-i.invariant.1
+returns c = ended c.loop-i.i _ _ _ _ _ (omega arith) c.loop-i.invariant.1

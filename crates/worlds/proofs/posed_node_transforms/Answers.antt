@@ -1,50 +1,48 @@
-use mathlib.Core.Path.{sym, ◌∙◌}
-use Prim.Native.Nat.{◌/◌}
+use mathlib.Core.Path.{refl, sym, ap, ◌∙◌, subst}
+use mathlib.Core.List.{List}
+use Prim.Native.Nat.{ℕ, ◌/◌}
+use lib.Ieee.{Float}
 use lib.ListN.{length}
+use Rattle.std.proofs.Common.{Result}
 use Rattle.model.specs.Refusals.{place_number}
+use Rattle.refusals.specs.declared.Refusal.{Refusal}
+use Rattle.refusals.proofs.Told.{not-none, passed-on}
 use Rattle.tables.specs.Decoded.{Lent, scene_of}
 use Rattle.checks.specs.Drawn.{lent_as, tables_number}
+use Rattle.worlds.specs.Placed.{answer_of, Placed}
 use Rattle.worlds.proofs.Delivering.{refused, few, walk-room, world-room, accepted}
-use Rattle.worlds.proofs.posed_node_transforms.Lts
-use Rattle.worlds.proofs.posed_node_transforms.Reads
-use Rattle.worlds.proofs.posed_node_transforms.Tie
 use Rattle.worlds.proofs.posed_node_transforms.Goals as goal
 
-abbrev Start : Type 0
-Start = Lts.Start Tie.the-claims Reads.Pre Reads.Post Tie.handed_clauses
+-- what is drawn with the room as it was counted
+abbrev counted : (l : Lent) (walk : List ℕ) (a b : ℕ) → ℕ
+counted l walk a b =
+    place_number (tables_number l) (scene_of l) (record { walk_room = length walk / 2; pose_slots = a; world_slots = b })
 
-lent : Start → Lent
-lent s = lent_as s.args.words.now s.args.floats.now s.args.node_weights.now s.args.mesh_weights.now s.args.h
-
-pub returns-then-number-ne0 : goal.returns-then-number-ne0
-unfolding lent
-returns-then-number-ne0 c =
-    let s = c.before.before.before.before.before.before.before.before.before.before.before.before.before.before in
-    let a = s.args in
-    refused (lent s) a.marks.now a.slots.now a.walk.now a.places.now a.worlds.now _
-    (c.place_number-number.ensures
-    ∙ (λ j. place_number (tables_number (lent s)) (scene_of (lent s)) (record { walk_room = length a.walk.now / 2; pose_slots = c.least.ensures j; world_slots = c.least-2.ensures j })))
-    c.if-number-ne0.true
+pub returns-in_err-check_place : goal.returns-in_err-check_place
+returns-in_err-check_place c =
+    let a = c.args in
+    let l = lent_as a.words.now a.floats.now a.node_weights.now a.mesh_weights.now a.h in
+    let e = c.in_err-check_place.field-0.0 in
+    subst (λ (r : Result ℕ Refusal). Placed l a.marks.now a.slots.now a.walk.now a.walk.now a.places.now a.places.now a.worlds.now a.worlds.now (answer_of r))
+    (sym (passed-on _ e c.from_residual.ensures.1))
+    (refused l a.marks.now a.slots.now a.walk.now a.places.now a.worlds.now _
+    (c.in_err-check_place.ensures ∙ (λ j. counted l a.walk.now (c.least.ensures j) (c.least-2.ensures j)))
+    (not-none e))
 
 pub place_all-taken-requires : goal.place_all-taken-requires
-unfolding lent
 place_all-taken-requires c =
-    let s = c.before.before.before.before.before.before.before.before.before.before.before.before.before.before.before.before.before.before in
-    let a = s.args in
-    let z = sym (c.place_number-number.ensures
-    ∙ (λ j. place_number (tables_number (lent s)) (scene_of (lent s)) (record { walk_room = length a.walk.now / 2; pose_slots = c.least.ensures j; world_slots = c.least-2.ensures j }))) ∙ c.if-number-ne0.false in
-    let k = lent s in
+    let a = c.args in
+    let l = lent_as a.words.now a.floats.now a.node_weights.now a.mesh_weights.now a.h in
+    let z = sym (c.in_ok-check_place.ensures ∙ (λ j. counted l a.walk.now (c.least.ensures j) (c.least-2.ensures j))) in
     record {
-      count_le_node_limit = few k a.marks.now a.slots.now a.walk.now a.places.now a.worlds.now z;
-      graph_in_bounds = walk-room k a.marks.now a.slots.now a.walk.now a.places.now a.worlds.now z;
-      count_in_bounds = world-room k a.marks.now a.slots.now a.walk.now a.places.now a.worlds.now z;
+      count_le_node_limit = few l a.marks.now a.slots.now a.walk.now a.places.now a.worlds.now z;
+      graph_in_bounds = walk-room l a.marks.now a.slots.now a.walk.now a.places.now a.worlds.now z;
+      count_in_bounds = world-room l a.marks.now a.slots.now a.walk.now a.places.now a.worlds.now z;
     }
 
 pub returns : goal.returns
-unfolding lent
 returns c =
-    let s = c.before.before.before.before.before.before.before.before.before.before.before.before.before.before.before.before.before.before.before.before.before.before.before.before.before in
-    let a = s.args in
-    let z = sym (c.place_number-number.ensures
-    ∙ (λ j. place_number (tables_number (lent s)) (scene_of (lent s)) (record { walk_room = length a.walk.now / 2; pose_slots = c.least.ensures j; world_slots = c.least-2.ensures j }))) ∙ c.if-number-ne0.false in
-    accepted (lent s) a.marks.now a.slots.now a.walk.now a.places.now a.worlds.now z _ _ _ _ c.place_all-taken.ensures
+    let a = c.args in
+    let l = lent_as a.words.now a.floats.now a.node_weights.now a.mesh_weights.now a.h in
+    let z = sym (c.in_ok-check_place.ensures ∙ (λ j. counted l a.walk.now (c.least.ensures j) (c.least-2.ensures j))) in
+    accepted l a.marks.now a.slots.now a.walk.now a.places.now a.worlds.now z _ _ _ _ c.place_all-taken.ensures

@@ -6,6 +6,3 @@ use Rattle.animation.proofs.weights.write_weights.Given as goal
 
 abbrev pub invariant-loop-j : goal.invariant-loop-j
 invariant-loop-j l = Filled (from_rows scalars l.n l.centre l.frames l.blend) l.initial.out l.n l.out l.j
-
-abbrev pub decreases-loop-j : goal.decreases-loop-j
-decreases-loop-j l = l.n - l.j

@@ -4,7 +4,7 @@ use mathlib.Core.Option.{Option}
 use lib.Ieee.{Float}
 use Rattle.model.specs.Matrix.{Matrix}
 use Rattle.checks.specs.Drawn.{lent_as}
-use Rattle.skin.specs.Palette.{count_of}
+use Rattle.tables.specs.Tags.{option_of}
 use Rattle.bake_stages.specs.Skinned.{skin_palette_from}
 use Rattle.bake_writing.proofs.Skinning.{counted}
 use Rattle.bake_writing.proofs.palettes.joints_of.Lts
@@ -21,9 +21,9 @@ palette s own mesh slots = skin_palette_from (lent_as s.args.words.now s.args.fl
 pub returns-in_default : goal.returns-in_default
 returns-in_default c = λ own mesh slots.
     let s = c.before.before.before.before.before.before in
-    counted (palette s own mesh slots) _ (sym (ap count_of c.in_default.is) ∙ c.palette_count.ensures.count own mesh slots)
+    counted (palette s own mesh slots) _ (sym (ap option_of c.in_default.is) ∙ c.palette_count.ensures.count own mesh slots)
 
 pub returns : goal.returns
 returns c = λ own mesh slots.
     let s = c.before.before.before.before.before.before in
-    counted (palette s own mesh slots) _ (sym (ap count_of c.in-Count.is) ∙ c.palette_count.ensures.count own mesh slots)
+    counted (palette s own mesh slots) _ (sym (ap option_of c.in-Some.is) ∙ c.palette_count.ensures.count own mesh slots)

@@ -4,8 +4,8 @@ use Rattle.grammar.specs.Digits.{base_of, sort_for}
 use Rattle.brackets.proofs.ReadingLaws.{WordGoing}
 use Rattle.brackets.proofs.reading.word.Given as goal
 
-abbrev pub invariant-loop-i : goal.invariant-loop-i
-invariant-loop-i l = WordGoing (base_of (sort_for l.float)) l.text l.at l.value l.i
+abbrev pub invariant-loop-next : goal.invariant-loop-next
+invariant-loop-next l = WordGoing (base_of (sort_for l.float)) l.text l.at l.value l.next
 
-abbrev pub decreases-loop-i : goal.decreases-loop-i
-decreases-loop-i l = length l.text - l.i
+abbrev pub decreases-loop-next : goal.decreases-loop-next
+decreases-loop-next l = length l.text - l.next

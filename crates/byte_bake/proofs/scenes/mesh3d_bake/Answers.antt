@@ -2,6 +2,7 @@ use mathlib.Core.Path.{◌≡◌, ◌∙◌}
 use Prim.Native.Nat.{◌/◌}
 use lib.Ieee.{binary32, of_bits}
 use lib.ListN.{length}
+use Rattle.refusals.specs.Drawn.{number_drawn}
 use Rattle.bake.specs.Baked.{Room}
 use Rattle.lent_bytes.specs.Bytes.{SceneBytes, Decoding, room_number, lent_by, drawn_by}
 use Rattle.byte_checks.specs.Numbers.{first_in}
@@ -48,9 +49,9 @@ output_of s = record { positions = s.args.positions.now; normals = s.args.normal
 pub returns-then-number-ne0 : goal.returns-then-number-ne0
 returns-then-number-ne0 c =
     let s : Start = record { lifetimes = c.lifetimes; ranges = c.ranges; args = c.args; well_formed = c.well_formed; requires = c.requires } in
-    let d : c.room_number-drawn.result ≡ drawn_by (bytes_of s) (decoding_of s)
-    = c.room_number-drawn.ensures ∙ (λ j. room_number (length s.args.words.now / 4) (c.count_of-count.ensures j) (decoding_of s)) in
-    let n = c.first_number-number.ensures
+    let d : number_drawn c.check_room-drawn.result ≡ drawn_by (bytes_of s) (decoding_of s)
+    = c.check_room-drawn.ensures ∙ (λ j. room_number (length s.args.words.now / 4) (c.count_of-count.ensures j) (decoding_of s)) in
+    let n = c.number-number.ensures ∙ c.check_first.ensures
     ∙ (λ j. first_in (d j) (lent_by (bytes_of s) s.args.header) s.args.node (c.from_bits-time.ensures j) (record {
       walk_room = length s.args.walk.now / 2;
       pose_slots = c.least.ensures j;
@@ -61,9 +62,9 @@ returns-then-number-ne0 c =
 pub bake_decoded-requires : goal.bake_decoded-requires
 bake_decoded-requires c =
     let s : Start = record { lifetimes = c.lifetimes; ranges = c.ranges; args = c.args; well_formed = c.well_formed; requires = c.requires } in
-    let d : c.room_number-drawn.result ≡ drawn_by (bytes_of s) (decoding_of s)
-    = c.room_number-drawn.ensures ∙ (λ j. room_number (length s.args.words.now / 4) (c.count_of-count.ensures j) (decoding_of s)) in
-    let n = c.first_number-number.ensures
+    let d : number_drawn c.check_room-drawn.result ≡ drawn_by (bytes_of s) (decoding_of s)
+    = c.check_room-drawn.ensures ∙ (λ j. room_number (length s.args.words.now / 4) (c.count_of-count.ensures j) (decoding_of s)) in
+    let n = c.number-number.ensures ∙ c.check_first.ensures
     ∙ (λ j. first_in (d j) (lent_by (bytes_of s) s.args.header) s.args.node (c.from_bits-time.ensures j) (record {
       walk_room = length s.args.walk.now / 2;
       pose_slots = c.least.ensures j;
@@ -75,9 +76,9 @@ bake_decoded-requires c =
 pub returns : goal.returns
 returns c =
     let s : Start = record { lifetimes = c.lifetimes; ranges = c.ranges; args = c.args; well_formed = c.well_formed; requires = c.requires } in
-    let d : c.room_number-drawn.result ≡ drawn_by (bytes_of s) (decoding_of s)
-    = c.room_number-drawn.ensures ∙ (λ j. room_number (length s.args.words.now / 4) (c.count_of-count.ensures j) (decoding_of s)) in
-    let n = c.first_number-number.ensures
+    let d : number_drawn c.check_room-drawn.result ≡ drawn_by (bytes_of s) (decoding_of s)
+    = c.check_room-drawn.ensures ∙ (λ j. room_number (length s.args.words.now / 4) (c.count_of-count.ensures j) (decoding_of s)) in
+    let n = c.number-number.ensures ∙ c.check_first.ensures
     ∙ (λ j. first_in (d j) (lent_by (bytes_of s) s.args.header) s.args.node (c.from_bits-time.ensures j) (record {
       walk_room = length s.args.walk.now / 2;
       pose_slots = c.least.ensures j;

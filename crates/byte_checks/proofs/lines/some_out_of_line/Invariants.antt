@@ -11,6 +11,3 @@ abbrev pub invariant-loop-k : goal.invariant-loop-k
 invariant-loop-k l =
     (l.count ≡ l.channels.count) × (l.k ≤ l.count)
     × ((i : ℕ) → i < l.k → out_of_line l.n (channel_in (floats_in l.floats) (channel_row (words_in l.words) l.channels i)) ≡ false)
-
-abbrev pub decreases-loop-k : goal.decreases-loop-k
-decreases-loop-k l = l.count - l.k

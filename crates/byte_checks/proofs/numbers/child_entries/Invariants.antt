@@ -7,6 +7,3 @@ use Rattle.byte_checks.proofs.numbers.child_entries.Given as goal
 abbrev pub invariant-loop-i : goal.invariant-loop-i
 invariant-loop-i l =
     (l.count ≡ l.nodes.count) × (l.i ≤ l.count) × (l.sum ≡ min (sum_below l.i (child_count (words_in l.words) l.nodes)) entry_cap)
-
-abbrev pub decreases-loop-i : goal.decreases-loop-i
-decreases-loop-i l = l.count - l.i

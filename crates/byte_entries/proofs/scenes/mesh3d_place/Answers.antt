@@ -1,6 +1,7 @@
 use mathlib.Core.Path.{◌≡◌, ◌∙◌}
 use Prim.Native.Nat.{◌/◌, min}
 use lib.ListN.{length}
+use Rattle.refusals.specs.Drawn.{number_drawn}
 use Rattle.lent_bytes.specs.Bytes.{SceneBytes, Decoding, room_number, lent_by, drawn_by}
 use Rattle.byte_checks.specs.Numbers.{place_in}
 use Rattle.byte_placing.specs.Placed.{Room}
@@ -36,9 +37,9 @@ room_of s = record {
 pub returns-then-number-ne0 : goal.returns-then-number-ne0
 returns-then-number-ne0 c =
     let s : Start = record { lifetimes = c.lifetimes; args = c.args; well_formed = c.well_formed; requires = c.requires } in
-    let d : c.room_number-drawn.result ≡ drawn_by (bytes_of s) (decoding_of s)
-    = c.room_number-drawn.ensures ∙ (λ j. room_number (length s.args.words.now / 4) (c.count_of-count.ensures j) (decoding_of s)) in
-    let n = c.place_number-number.ensures
+    let d : number_drawn c.check_room-drawn.result ≡ drawn_by (bytes_of s) (decoding_of s)
+    = c.check_room-drawn.ensures ∙ (λ j. room_number (length s.args.words.now / 4) (c.count_of-count.ensures j) (decoding_of s)) in
+    let n = c.number-number.ensures ∙ c.check_place.ensures
     ∙ (λ j. place_in (d j) (lent_by (bytes_of s) s.args.header) (record {
       walk_room = length s.args.walk.now / 2;
       pose_slots = c.least.ensures j;
@@ -49,9 +50,9 @@ returns-then-number-ne0 c =
 pub place_decoded-requires : goal.place_decoded-requires
 place_decoded-requires c =
     let s : Start = record { lifetimes = c.lifetimes; args = c.args; well_formed = c.well_formed; requires = c.requires } in
-    let d : c.room_number-drawn.result ≡ drawn_by (bytes_of s) (decoding_of s)
-    = c.room_number-drawn.ensures ∙ (λ j. room_number (length s.args.words.now / 4) (c.count_of-count.ensures j) (decoding_of s)) in
-    let n = c.place_number-number.ensures
+    let d : number_drawn c.check_room-drawn.result ≡ drawn_by (bytes_of s) (decoding_of s)
+    = c.check_room-drawn.ensures ∙ (λ j. room_number (length s.args.words.now / 4) (c.count_of-count.ensures j) (decoding_of s)) in
+    let n = c.number-number.ensures ∙ c.check_place.ensures
     ∙ (λ j. place_in (d j) (lent_by (bytes_of s) s.args.header) (record {
       walk_room = length s.args.walk.now / 2;
       pose_slots = c.least.ensures j;
@@ -63,9 +64,9 @@ place_decoded-requires c =
 pub returns : goal.returns
 returns c =
     let s : Start = record { lifetimes = c.lifetimes; args = c.args; well_formed = c.well_formed; requires = c.requires } in
-    let d : c.room_number-drawn.result ≡ drawn_by (bytes_of s) (decoding_of s)
-    = c.room_number-drawn.ensures ∙ (λ j. room_number (length s.args.words.now / 4) (c.count_of-count.ensures j) (decoding_of s)) in
-    let n = c.place_number-number.ensures
+    let d : number_drawn c.check_room-drawn.result ≡ drawn_by (bytes_of s) (decoding_of s)
+    = c.check_room-drawn.ensures ∙ (λ j. room_number (length s.args.words.now / 4) (c.count_of-count.ensures j) (decoding_of s)) in
+    let n = c.number-number.ensures ∙ c.check_place.ensures
     ∙ (λ j. place_in (d j) (lent_by (bytes_of s) s.args.header) (record {
       walk_room = length s.args.walk.now / 2;
       pose_slots = c.least.ensures j;

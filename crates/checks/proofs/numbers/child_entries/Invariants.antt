@@ -1,10 +1,7 @@
 use mathlib.Core.Path.{◌≡◌}
-use Prim.Native.Nat.{◌-◌, ◌≤◌, min}
+use Prim.Native.Nat.{◌≤◌, min}
 use Rattle.checks.specs.Drawn.{entry_cap, sum_below, child_count}
 use Rattle.checks.proofs.numbers.child_entries.Given as goal
 
 abbrev pub invariant-loop-i : goal.invariant-loop-i
 invariant-loop-i l = (l.count ≡ l.nodes.count) × (l.i ≤ l.count) × (l.sum ≡ min (sum_below l.i (child_count l.words l.nodes)) entry_cap)
-
-abbrev pub decreases-loop-i : goal.decreases-loop-i
-decreases-loop-i l = l.count - l.i

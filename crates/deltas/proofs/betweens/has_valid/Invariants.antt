@@ -13,6 +13,3 @@ is_valid b = valid b.weight
 
 abbrev pub invariant-loop-k : goal.invariant-loop-k
 invariant-loop-k l = (l.k ≤ l.betweens.count) × (any_of is_valid (take l.k (betweens_in l.words l.floats l.h l.betweens)) ≡ false)
-
-abbrev pub decreases-loop-k : goal.decreases-loop-k
-decreases-loop-k l = l.count - l.k

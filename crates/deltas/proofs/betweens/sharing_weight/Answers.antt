@@ -25,9 +25,6 @@ loop-k-init c = (omega arith, omega arith, refl)
 pub overflow_add-n : goal.overflow_add-n
 overflow_add-n c = record { fits = omega (arith, c.well_formed.1.1.1.0) }
 
-pub overflow_add-k : goal.overflow_add-k
-overflow_add-k c = record { fits = omega (arith, c.well_formed.1.1.1.0) }
-
 pub loop-k-preserved : goal.loop-k-preserved
 loop-k-preserved c =
     let a = c.args in

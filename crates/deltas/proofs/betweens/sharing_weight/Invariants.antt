@@ -7,6 +7,3 @@ use Rattle.deltas.proofs.betweens.sharing_weight.Given as goal
 abbrev pub invariant-loop-k : goal.invariant-loop-k
 invariant-loop-k l =
     (l.k ≤ l.betweens.count) × (l.n ≤ l.k) × (l.n ≡ sharing (take l.k (betweens_in l.words l.floats l.h l.betweens)) l.w)
-
-abbrev pub decreases-loop-k : goal.decreases-loop-k
-decreases-loop-k l = l.count - l.k

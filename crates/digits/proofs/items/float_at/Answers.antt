@@ -1,17 +1,14 @@
 use mathlib.Core.Path.{refl}
 use native.Mathlib.Omega.{arith}
-use Rattle.digits.proofs.StandingLaws.{none-stands, float-stands}
+use Rattle.digits.proofs.StandingLaws.{float-stands}
 use Rattle.digits.proofs.items.float_at.Goals as goal
 
 pub returns-then-text-next-lt48 : goal.returns-then-text-next-lt48
 returns-then-text-next-lt48 c =
-    let r = c.eight_digits-e.ensures in
-    λ t. record {
-      stands = float-stands (omega arith) refl (r.written t) r.value;
+    let r = c.in_ok-value.ensures in
+    record {
+      stands = float-stands (omega arith) refl r.written r.value;
       small = omega arith;
       inside = omega arith;
       stops = c.if-text-next-lt48.true;
     }
-
-pub returns : goal.returns
-returns c = none-stands _ c.none.ensures

@@ -1,10 +1,10 @@
 use mathlib.Core.Path.{ap}
-use Rattle.scene.specs.Values.{inverse_of}
+use Rattle.scene.specs.Values.{matrix_of}
 use Rattle.entries.proofs.Cases.{with-some, with_none}
 use Rattle.entries.proofs.inverses.mesh3d_mat4_affine_inverse.Goals as goal
 
-pub returns-in-Of : goal.returns-in-Of
-returns-in-Of c = with-some _ _ _ (cc (ap inverse_of c.in-Of.is))
+pub returns-in-Some : goal.returns-in-Some
+returns-in-Some c = with-some _ _ _ (cc (ap matrix_of c.in-Some.is))
 
 pub returns-in-None : goal.returns-in-None
-returns-in-None c = with_none _ _ (cc (ap inverse_of c.in-None.is))
+returns-in-None c = with_none _ _ (cc (ap matrix_of c.in-None.is))

@@ -3,8 +3,8 @@ use Rattle.scene.specs.Values.{linear_of}
 use Rattle.entries.proofs.Cases.{with-some, with_none}
 use Rattle.entries.proofs.inverses.mesh3d_normal_matrix.Goals as goal
 
-pub returns-in-Of : goal.returns-in-Of
-returns-in-Of c = with-some _ _ _ (cc (ap linear_of c.in-Of.is))
+pub returns-in-Some : goal.returns-in-Some
+returns-in-Some c = with-some _ _ _ (cc (ap linear_of c.in-Some.is))
 
 pub returns-in-None : goal.returns-in-None
 returns-in-None c = with_none _ _ (cc (ap linear_of c.in-None.is))

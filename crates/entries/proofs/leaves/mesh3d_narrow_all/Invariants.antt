@@ -6,6 +6,3 @@ use Rattle.entries.proofs.leaves.mesh3d_narrow_all.Given as goal
 
 abbrev pub invariant-loop-i : goal.invariant-loop-i
 invariant-loop-i l = Filled (map narrow_of l.xs) l.initial.out l.n l.out l.i
-
-abbrev pub decreases-loop-i : goal.decreases-loop-i
-decreases-loop-i l = l.n - l.i

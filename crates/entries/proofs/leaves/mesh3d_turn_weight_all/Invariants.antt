@@ -6,6 +6,3 @@ use Rattle.entries.proofs.leaves.mesh3d_turn_weight_all.Given as goal
 
 abbrev pub invariant-loop-i : goal.invariant-loop-i
 invariant-loop-i l = Filled (zip_with weight l.vs l.cs) l.initial.out l.n l.out l.i
-
-abbrev pub decreases-loop-i : goal.decreases-loop-i
-decreases-loop-i l = l.n - l.i

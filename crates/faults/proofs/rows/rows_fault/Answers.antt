@@ -30,10 +30,6 @@ pub loop-i-init : goal.loop-i-init
 unfolding sum_below
 loop-i-init c = (refl, search rules, refl, finds-none _ _ _ c.no_fault-found.ensures)
 
-pub overflow_add-i : goal.overflow_add-i
-overflow_add-i c =
-    search (rules, c.loop-i-test.true, c.loop-i.invariant.0, c.well_formed.1.1.0.1)
-
 pub loop-i-preserved : goal.loop-i-preserved
 loop-i-preserved c =
     let a = c.args in

@@ -17,6 +17,3 @@ abbrev pub invariant-loop-i : goal.invariant-loop-i
 invariant-loop-i l =
     (l.count ≡ l.t.count) × (l.i ≤ l.count) × (l.entries ≡ min (sum_below l.i (entry_count l.words l.t l.k)) entry_cap)
     × Finds l.n l.found (spots_below l.i (spots_at l.words l.s l.t l.k))
-
-abbrev pub decreases-loop-i : goal.decreases-loop-i
-decreases-loop-i l = l.count - l.i

@@ -11,7 +11,7 @@ unfolding fault_of
 returns-then-n-eq0 c =
     let a = c.args in
     let l = lent_as a.words.now a.floats.now a.node_weights.now a.mesh_weights.now a.h in
-    let none = sym c.tables_number-n.ensures ∙ c.if-n-eq0.true in
+    let none = sym (c.number-n.ensures ∙ c.check_tables.ensures) ∙ c.if-n-eq0.true in
     c.no_fault.ensures
     ∙ ap (λ (b : Bool). pick b no_fault (first_with (tables_number l) (spots l))) (sym (eq-eqb (tables_number l) 0 none))
 
@@ -20,7 +20,7 @@ unfolding fault_of
 returns c =
     let a = c.args in
     let l = lent_as a.words.now a.floats.now a.node_weights.now a.mesh_weights.now a.h in
-    let number = c.tables_number-n.ensures in
+    let number = c.number-n.ensures ∙ c.check_tables.ensures in
     let some = c.if-n-eq0.false in
     c.first_fault.ensures some
     ∙ (λ j. first_with (number j) (spots_for a.words.now (c.sizes_for-s.ensures j) a.h))

@@ -10,7 +10,7 @@ pub returns-then-number-n : goal.returns-then-number-n
 unfolding table_spots
 returns-then-number-n c =
     let a = c.args in
-    let number = c.table_number-number.ensures
+    let number = c.number-number.ensures ∙ c.check_table.ensures
     ∙ ap (λ (t : Part). table_number (length a.words.now) t a.k) c.table_of-t.ensures in
     finds-first _ _ _ _ (λ j. spot (c.table_index-table.ensures j) 0 16 (number j)) (sym number ∙ c.if-number-n.true)
 
@@ -19,7 +19,7 @@ unfolding table_spots
 returns c =
     let a = c.args in
     let t = c.table_of-t.ensures in
-    let number = c.table_number-number.ensures
+    let number = c.number-number.ensures ∙ c.check_table.ensures
     ∙ ap (λ (t : Part). table_number (length a.words.now) t a.k) t in
     finds-later _ _ _ _ (λ e. c.if-number-n.false (number ∙ e))
     (λ some. c.rows_fault.ensures some

@@ -8,6 +8,3 @@ use Rattle.graph.proofs.walk.list_all.Given as goal
 abbrev pub invariant-loop-i : goal.invariant-loop-i
 invariant-loop-i l =
     (l.i ≤ length l.list) × Turned (mark_all l.p (drop l.i l.list)) l.initial.ids l.top l.initial.marks l.ids l.at l.marks × (length l.ids ≡ length l.initial.ids) × (length l.marks ≡ length l.initial.marks)
-
-abbrev pub decreases-loop-i : goal.decreases-loop-i
-decreases-loop-i l = l.i

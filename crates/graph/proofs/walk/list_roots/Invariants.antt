@@ -8,6 +8,3 @@ abbrev pub invariant-loop-i : goal.invariant-loop-i
 invariant-loop-i l =
     (l.i ≤ length l.roots) × (l.top + l.i ≡ length l.roots) × Rooted (drop l.i l.roots) l.initial.marks l.ids l.top l.marks
     × (length l.ids ≡ length l.initial.ids) × (length l.marks ≡ length l.initial.marks)
-
-abbrev pub decreases-loop-i : goal.decreases-loop-i
-decreases-loop-i l = l.i

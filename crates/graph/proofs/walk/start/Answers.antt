@@ -7,4 +7,4 @@ use Rattle.graph.proofs.walk.start.Goals as goal
 pub returns : goal.returns
 returns c =
     let s = c.args in
-    subst (λ (codes : List ℕ). Rooted s.roots.now codes c.list_roots.new.ids c.list_roots.result c.list_roots.new.marks) c.wipe_words.ensures c.list_roots.ensures
+    subst (λ (codes : List ℕ). Rooted s.roots.now codes c.list_roots.new.ids c.list_roots.result c.list_roots.new.marks) (c.fill.ensures.after (λ _ e. e)) c.list_roots.ensures

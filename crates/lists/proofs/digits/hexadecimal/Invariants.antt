@@ -1,10 +1,6 @@
-use mathlib.Core.Path.{◌≡◌}
-use Prim.Native.Nat.{◌≤◌, ◌-◌}
-use Rattle.lists.specs.Digits.{spelled}
+use Rattle.std.proofs.Common.{◌≡◌, true}
+use Rattle.lists.specs.Digits.{spelled, are_digits}
 use Rattle.lists.proofs.digits.hexadecimal.Given as goal
 
-abbrev pub invariant-loop-k : goal.invariant-loop-k
-invariant-loop-k l = (l.k ≤ l.count) × (l.n ≡ spelled l.text l.from l.k)
-
-abbrev pub decreases-loop-k : goal.decreases-loop-k
-decreases-loop-k l = l.count - l.k
+abbrev pub invariant-loop-b : goal.invariant-loop-b
+invariant-loop-b l = (l.n ≡ spelled l.digits 0 l.b-index) × (are_digits l.digits 0 l.b-index ≡ true)

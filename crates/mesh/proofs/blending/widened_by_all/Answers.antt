@@ -13,9 +13,6 @@ pub loop-k-init : goal.loop-k-init
 unfolding foldl
 loop-k-init c = (omega arith, refl)
 
-pub overflow_add-k : goal.overflow_add-k
-overflow_add-k c = record { fits = omega (arith, c.well_formed.1.1.1.0) }
-
 pub loop-k-preserved : goal.loop-k-preserved
 loop-k-preserved c =
     let a = c.args in

@@ -9,6 +9,3 @@ use Rattle.mesh.proofs.blending.widened_by_all.Given as goal
 abbrev pub invariant-loop-k : goal.invariant-loop-k
 invariant-loop-k l =
     (l.k ≤ l.betweens.count) × (l.b ≡ foldl (widened_by l.floats l.w (betweens_in l.words l.floats l.h l.betweens)) l.initial.b (take l.k (stations_in l.words l.floats l.h l.betweens)))
-
-abbrev pub decreases-loop-k : goal.decreases-loop-k
-decreases-loop-k l = l.count - l.k

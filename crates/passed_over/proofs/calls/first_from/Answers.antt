@@ -12,13 +12,15 @@ use Rattle.pose.specs.Lines.{out_of_line}
 use Rattle.passed_over.specs.Reasons.{reason_for}
 use Rattle.passed_over.specs.Passed.{channel_told}
 use Rattle.passed_over.proofs.FirstLaws.{next, found, ended}
+use Rattle.passed_over.specs.Told.{code_told}
+use Rattle.passed_over.proofs.Codes.{some-code}
 use Rattle.passed_over.proofs.calls.first_from.Goals as goal
 
 pub loop-k-init : goal.loop-k-init
 loop-k-init c = (refl, refl)
 
-pub reason_at-reason-requires : goal.reason_at-reason-requires
-reason_at-reason-requires c =
+pub reason_at-requires : goal.reason_at-requires
+reason_at-requires c =
     let l = c.loop-k in
     let a = c.args in
     let e = sym c.channel_row.ensures in (
@@ -28,15 +30,15 @@ reason_at-reason-requires c =
           (c.requires.2 l.k (omega arith)),
     )
 
-pub returns-then-reason-ne0 : goal.returns-then-reason-ne0
-returns-then-reason-ne0 c =
+pub returns-in-Some : goal.returns-in-Some
+returns-in-Some c =
     let l = c.loop-k in
     let a = c.args in
     let g : ℕ → Track = λ i. channel_in a.floats.now (channel_row a.words.now a.channels i) in
-    let e = c.reason_at-reason.ensures
+    let e = c.in-Some.ensures
     ∙ ap (λ (x : ChannelRow). reason_for a.time a.n (channel_in a.floats.now x)) c.channel_row.ensures in
-    ap (λ (m : ℕ). channel_told m l.k) e
-    ∙ sym (found (reason_for a.time a.n) a.channels.count g l.k (omega arith) (λ z. c.if-reason-ne0.true (e ∙ z)))
+    ap (λ (m : ℕ). channel_told m l.k) (c.from.ensures ∙ e)
+    ∙ sym (found (reason_for a.time a.n) a.channels.count g l.k (omega arith) (λ z. some-code c.in-Some.reason (e ∙ z)))
     ∙ l.invariant.1
 
 pub loop-k-preserved : goal.loop-k-preserved
@@ -44,10 +46,10 @@ loop-k-preserved c =
     let l = c.loop-k in
     let a = c.args in
     let g : ℕ → Track = λ i. channel_in a.floats.now (channel_row a.words.now a.channels i) in
-    let e = c.reason_at-reason.ensures
+    let e = c.reason_at.ensures
     ∙ ap (λ (x : ChannelRow). reason_for a.time a.n (channel_in a.floats.now x)) c.channel_row.ensures in (
       refl,
-      sym (next (reason_for a.time a.n) a.channels.count g l.k (omega arith) (sym e ∙ c.if-reason-ne0.false))
+      sym (next (reason_for a.time a.n) a.channels.count g l.k (omega arith) (sym e ∙ ap code_told c.in_default.is))
           ∙ l.invariant.1,
     )
 

@@ -12,6 +12,3 @@ invariant-loop-k l =
     (l.count ≡ l.channels.count)
     × (first_with (reason_for l.time l.n) l.k (drop l.k (channels_in l.words l.floats l.channels))
     ≡ first_with (reason_for l.time l.n) l.from (drop l.from (channels_in l.words l.floats l.channels)))
-
-abbrev pub decreases-loop-k : goal.decreases-loop-k
-decreases-loop-k l = l.count - l.k

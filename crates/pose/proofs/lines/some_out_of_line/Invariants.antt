@@ -9,6 +9,3 @@ use Rattle.pose.proofs.lines.some_out_of_line.Given as goal
 abbrev pub invariant-loop-k : goal.invariant-loop-k
 invariant-loop-k l =
     (l.count ≡ l.channels.count) × (l.k ≤ l.count) × ((i : ℕ) → i < l.k → out_of_line l.n (channel_in l.floats (channel_row l.words l.channels i)) ≡ false)
-
-abbrev pub decreases-loop-k : goal.decreases-loop-k
-decreases-loop-k l = l.count - l.k

@@ -12,6 +12,3 @@ invariant-loop-k l =
     (l.count ≡ l.channels.count) × (l.k ≤ l.count) × (length l.marks ≡ length l.initial.marks) × (length l.slots ≡ length l.initial.slots)
     × (l.marks ≡ encoded_words l.time l.n (tabulate l.k (λ i. channel_in l.floats (channel_row l.words l.channels i))) l.initial.marks)
     × (l.slots ≡ encoded_floats l.time l.n (tabulate l.k (λ i. channel_in l.floats (channel_row l.words l.channels i))) l.initial.slots)
-
-abbrev pub decreases-loop-k : goal.decreases-loop-k
-decreases-loop-k l = l.count - l.k

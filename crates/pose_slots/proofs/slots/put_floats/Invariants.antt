@@ -6,6 +6,3 @@ use Rattle.pose_slots.proofs.slots.put_floats.Given as goal
 
 abbrev pub invariant-loop-k : goal.invariant-loop-k
 invariant-loop-k l = (l.k ≤ 10) × (length l.v ≡ 10) × (length l.s ≡ length l.initial.s) × (l.s ≡ paste l.initial.s l.at l.v l.k)
-
-abbrev pub decreases-loop-k : goal.decreases-loop-k
-decreases-loop-k l = 10 - l.k

@@ -10,4 +10,4 @@ returns-in-Trs c = c.trs_to_matrix.ensures ∙ sym (ap (λ (t : Transform). to_m
 
 pub returns-in-Matrix : goal.returns-in-Matrix
 unfolding to_matrix
-returns-in-Matrix c = c.entries_to_matrix.ensures ∙ sym (ap (λ (t : Transform). to_matrix (transform_of t)) c.in-Matrix.is)
+returns-in-Matrix c = sym (ap (λ (t : Transform). to_matrix (transform_of t)) c.in-Matrix.is)

@@ -1,3 +1,5 @@
+use Rattle.std.proofs.Common.{◌≡◌, rules}
+use Rattle.scene_marks.specs.Marks.{no_mark}
 use native.Mathlib.Omega.{arith}
 use Rattle.scene_schema.proofs.Numbers.{kind-is}
 use Rattle.scene_forms.proofs.FieldLaws.{field-missing, field-there, items-fit}
@@ -10,8 +12,8 @@ overflow_add-k c =
 pub returns-then-w-name : goal.returns-then-w-name
 returns-then-w-name c =
     let t = (kind-is _ c.requires.1).slots _ c.requires.2 in
-    field-missing _ c.behind.ensures c.name-w.ensures c.requires.0 t c.slot_name-name.ensures c.if-w-name.true
-    c.absent.ensures
+    let none : c.default.result ≡ no_mark = search rules in
+    field-missing _ c.behind.ensures c.name-w.ensures c.requires.0 t c.slot_name-name.ensures c.if-w-name.true none
 
 pub overflow_mul-k-2 : goal.overflow_mul-k-2
 overflow_mul-k-2 c = omega (arith, c.requires)

@@ -1,5 +1,5 @@
 use mathlib.Core.Path.{◌≡◌}
-use Prim.Native.Nat.{ℕ, ◌-◌, ◌<◌}
+use Prim.Native.Nat.{ℕ, ◌<◌}
 use native.Mathlib.Omega.{arith}
 use lib.ListN.{length, get_or}
 use Rattle.scene_schema.specs.Numbers.{slot_counts}
@@ -18,13 +18,6 @@ inside k j n h e l = let t = kind-is k h in omega (arith, t.count)
 pub field-e-requires : goal.field-e-requires
 field-e-requires c =
     (c.loop-j.invariant.within, c.requires.1, inside _ _ _ c.requires.1 c.slots-n.ensures c.loop-j-test.true)
-
-pub overflow_add-j : goal.overflow_add-j
-overflow_add-j c =
-    omega (arith, inside _ _ _ c.requires.1 c.slots-n.ensures c.loop-j-test.true, (kind-is _ c.requires.1).few)
-
-pub loop-j-smaller : goal.loop-j-smaller
-loop-j-smaller c = omega (arith, c.loop-j-test.true)
 
 pub loop-j-preserved : goal.loop-j-preserved
 loop-j-preserved c =

@@ -13,5 +13,5 @@ returns c =
     let a = c.args in
     closed-told _ a.k a.p a.s a.marks.now c.behind.ensures c.behind-2.ensures
     c.meet.ensures c.meet-2.ensures c.groups_hold.ensures c.judge.ensures
-    c.stride.ensures c.ahead.ensures c.reach_in.ensures c.greater.ensures
+    c.stride.ensures c.ahead.ensures c.reach_in.ensures c.max.ensures
     c.request_in.ensures

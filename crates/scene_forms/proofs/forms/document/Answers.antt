@@ -1,5 +1,4 @@
 use mathlib.Core.Path.{refl}
-use Prim.Native.Nat.{◌-◌}
 use native.Mathlib.Omega.{arith}
 use Rattle.scene_forms.proofs.DocumentLaws.{document-start, document-more, document-done}
 use Rattle.scene_forms.proofs.forms.document.Goals as goal
@@ -16,12 +15,6 @@ bounds-counts-k c = omega (arith, c.loop-k-test.true, c.loop-k.invariant.nine)
 
 pub bounds-reaches-k : goal.bounds-reaches-k
 bounds-reaches-k c = omega (arith, c.loop-k-test.true, c.loop-k.invariant.reached)
-
-pub overflow_add-k : goal.overflow_add-k
-overflow_add-k c = omega (arith, c.loop-k-test.true)
-
-pub loop-k-smaller : goal.loop-k-smaller
-loop-k-smaller c = omega (arith, c.loop-k-test.true)
 
 pub loop-k-preserved : goal.loop-k-preserved
 loop-k-preserved c =

@@ -40,9 +40,3 @@ bounds-counts-k c = omega arith
 
 pub more_words-sum-requires : goal.more_words-sum-requires
 more_words-sum-requires c = omega arith
-
-pub overflow_add-k : goal.overflow_add-k
-overflow_add-k c = omega arith
-
-pub loop-k-smaller : goal.loop-k-smaller
-loop-k-smaller c = omega arith

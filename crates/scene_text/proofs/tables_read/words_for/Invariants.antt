@@ -8,6 +8,3 @@ use Rattle.scene_text.proofs.tables_read.words_for.Given as goal
 abbrev pub invariant-loop-k : goal.invariant-loop-k
 invariant-loop-k l =
     (min (l.sum + words_of_counts l.k (drop l.k l.counts)) farthest ≡ words_for l.ids l.counts) × ((l.sum ≤ farthest) × (l.k ≤ 9))
-
-abbrev pub decreases-loop-k : goal.decreases-loop-k
-decreases-loop-k l = 9 - l.k

@@ -5,6 +5,3 @@ use Rattle.shapes.proofs.counting.mesh_lengths.Given as goal
 
 abbrev pub invariant-loop-k : goal.invariant-loop-k
 invariant-loop-k l = (l.total ≡ lengths_below l.words l.table l.part l.k) × (l.k ≤ l.part.count)
-
-abbrev pub decreases-loop-k : goal.decreases-loop-k
-decreases-loop-k l = l.part.count - l.k

@@ -7,6 +7,3 @@ use Rattle.skin.proofs.palette.all_placed.Given as goal
 
 abbrev pub invariant-loop-i : goal.invariant-loop-i
 invariant-loop-i l = (l.i ≤ length l.joints) × (every (has_world l.n l.places) l.joints ≡ every (has_world l.n l.places) (drop l.i l.joints))
-
-abbrev pub decreases-loop-i : goal.decreases-loop-i
-decreases-loop-i l = length l.joints - l.i

@@ -48,7 +48,7 @@ returns-then-is_whole c =
     λ n m slots.
     let p = palette-is s.args.h.graph.nodes.count s.args.places.now slots _ _ (sym (w.ensures slots) ∙ c.if-is_whole.true) in
     ap some (sym (palette-length _ _ slots))
-    ∙ sym (ap length_of (bound-to (lent s n m) s.args.skin (world s slots) b.result (b.ensures.skeleton _ n m) c.in-Skeleton.row c.in-Skeleton.is _ js.ensures _ bs.ensures ∙ p))
+    ∙ sym (ap length_of (bound-to (lent s n m) s.args.skin (world s slots) b.result (b.ensures.skeleton _ n m) c.in-Some.row c.in-Some.is _ js.ensures _ bs.ensures ∙ p))
     )
 
 pub returns : goal.returns
@@ -61,6 +61,6 @@ returns c =
     let w = c.is_whole in
     counted _ _ _ _ _ _ (
     λ n m slots.
-    sym (ap length_of (bound-to (lent s n m) s.args.skin (world s slots) b.result (b.ensures.skeleton _ n m) c.in-Skeleton.row c.in-Skeleton.is _ js.ensures _ bs.ensures
+    sym (ap length_of (bound-to (lent s n m) s.args.skin (world s slots) b.result (b.ensures.skeleton _ n m) c.in-Some.row c.in-Some.is _ js.ensures _ bs.ensures
     ∙ no-palette _ (sym (w.ensures slots) ∙ c.if-is_whole.false)))
     )

@@ -7,6 +7,3 @@ use Rattle.skin.proofs.palette.write_joints.Given as goal
 
 abbrev pub invariant-loop-t : goal.invariant-loop-t
 invariant-loop-t l = Written (palette_in l.joints l.binds l.worlds) l.initial.out l.out l.t × (length l.out ≡ length l.initial.out)
-
-abbrev pub decreases-loop-t : goal.decreases-loop-t
-decreases-loop-t l = length l.joints - l.t

@@ -48,5 +48,5 @@ returns c =
       slice = λ n m.
           c.lay_out.ensures
           ∙ ap (λ (p : Option (List Matrix)). laid_out (or_else p []) s.args.out.now)
-          (sym (bound-to (lent s n m) s.args.skin (world s) b.result (b.ensures.skeleton _ n m) c.in-Skeleton.row c.in-Skeleton.is _ js.ensures _ bs.ensures));
+          (sym (bound-to (lent s n m) s.args.skin (world s) b.result (b.ensures.skeleton _ n m) c.in-Some.row c.in-Some.is _ js.ensures _ bs.ensures));
     }

@@ -6,6 +6,3 @@ use Rattle.skin_roots.proofs.lines.count_lines.Given as goal
 
 abbrev pub invariant-loop-t : goal.invariant-loop-t
 invariant-loop-t l = (l.t ≤ length l.joints) × Leading l.codes l.joints l.t l.counts × (length l.counts ≡ length l.initial.counts)
-
-abbrev pub decreases-loop-t : goal.decreases-loop-t
-decreases-loop-t l = length l.joints - l.t

@@ -7,6 +7,3 @@ use Rattle.skin_roots.proofs.roots.all_nodes.Given as goal
 
 abbrev pub invariant-loop-i : goal.invariant-loop-i
 invariant-loop-i l = (l.i ≤ length l.joints) × (every (λ j. ltb j l.n) l.joints ≡ every (λ j. ltb j l.n) (drop l.i l.joints))
-
-abbrev pub decreases-loop-i : goal.decreases-loop-i
-decreases-loop-i l = length l.joints - l.i

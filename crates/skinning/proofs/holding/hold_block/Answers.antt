@@ -1,5 +1,5 @@
 use mathlib.Core.Path.{◌≡◌, refl, subst}
-use Prim.Native.Nat.{ℕ, ◌-◌}
+use Prim.Native.Nat.{ℕ}
 use native.Mathlib.Omega.{arith}
 use Rattle.model.specs.Lists.{rows_in}
 use Rattle.skinning.specs.Holding.{HeldRows}
@@ -32,7 +32,7 @@ loop-i-preserved c =
       search rules,
       search rules,
       next-held (rows_in 16 a.palette.now) (rows_in 4 a.joints.now) (rows_in 4 a.weights.now) a.whole a.k a.positions.now a.normals.now a.tangents.now l.i _ l.positions _ l.tangents _ l.n _ l.t _
-          c.joint_matrix-b.ensures (omega (arith, l.invariant.3)) (omega (arith, l.invariant.4)) l.invariant.5 c.hold_vertex.ensures,
+          c.joint_matrix-joint.ensures (omega (arith, l.invariant.3)) (omega (arith, l.invariant.4)) l.invariant.5 c.hold_vertex.ensures,
     )
 
 pub returns : goal.returns

@@ -1,5 +1,5 @@
 use mathlib.Core.Path.{◌≡◌}
-use Prim.Native.Nat.{◌-◌, ◌≤◌}
+use Prim.Native.Nat.{◌≤◌}
 use lib.ListN.{length}
 use Rattle.model.specs.Lists.{rows_in}
 use Rattle.skinning.specs.Holding.{HeldRows}
@@ -13,6 +13,3 @@ invariant-loop-i l =
     × (length l.n ≡ 48)
     × (length l.t ≡ 48)
     × HeldRows (rows_in 16 l.palette) (rows_in 4 l.joints) (rows_in 4 l.weights) l.whole l.k l.i l.initial.positions l.positions l.normals l.initial.tangents l.tangents l.n l.t
-
-abbrev pub decreases-loop-i : goal.decreases-loop-i
-decreases-loop-i l = 16 - l.i

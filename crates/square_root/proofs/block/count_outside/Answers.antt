@@ -1,4 +1,4 @@
-use Rattle.std.proofs.Common.{◌≡◌, ℕ, ◌+◌, ◌-◌, ◌≤◌, ◌&&◌, eqb, get_or, drop, sym, refl, subst, arith, rules}
+use Rattle.std.proofs.Common.{◌≡◌, ℕ, ◌+◌, ◌≤◌, ◌&&◌, eqb, get_or, drop, sym, refl, subst, arith, rules}
 use lib.Ieee.{nan}
 use Rattle.square_root.specs.Normal.{is_normal, all_normal}
 use Rattle.square_root.proofs.Lanes.{one-most, count_next, count-done}

@@ -1,4 +1,4 @@
-use Rattle.std.proofs.Common.{◌≡◌, ◌-◌, ◌^◌, ◌<◌, length, refl, arith, rules, below_none}
+use Rattle.std.proofs.Common.{◌≡◌, ◌^◌, ◌<◌, length, refl, arith, rules, below_none}
 use Rattle.square_root.proofs.Lanes.{set_next}
 use Rattle.square_root.proofs.Normals.{each-normal}
 use Rattle.square_root.proofs.block.guesses.Goals as goal

@@ -1,4 +1,4 @@
-use Rattle.std.proofs.Common.{◌≡◌, ◌-◌, length, le_trans, arith, rules, below_none, below_more}
+use Rattle.std.proofs.Common.{◌≡◌, length, le_trans, arith, rules, below_none, below_more}
 use lib.Bits.{and_le_l, and_le_r}
 use Rattle.square_root.proofs.Normals.{each-normal}
 use Rattle.square_root.proofs.block.near_roots.Goals as goal

@@ -1,4 +1,4 @@
-use Rattle.std.proofs.Common.{◌-◌, refl, rules, below_none}
+use Rattle.std.proofs.Common.{refl, rules, below_none}
 use Rattle.square_root.proofs.Lanes.{taken_next, taken-all}
 use Rattle.square_root.proofs.block.one_by_one.Goals as goal
 

@@ -1,4 +1,4 @@
-use Rattle.std.proofs.Common.{◌-◌, ◌*◌, ◌/◌, ◌^◌, ◌≤◌, le_of_lt, mul-le-mul, arith}
+use Rattle.std.proofs.Common.{◌*◌, ◌/◌, ◌^◌, ◌≤◌, le_of_lt, mul-le-mul, arith}
 use lib.Bits.{bit_and, and_le_r}
 use Rattle.square_root.proofs.root.near.Goals as goal
 

@@ -1,5 +1,5 @@
 -- The invariant: q is at most the root, q + d is above it, and d is a power of two. The measure is d.
-use Rattle.std.proofs.Common.{◌≡◌, ℕ, zero, suc, ◌+◌, ◌-◌, ◌*◌, ◌/◌, ◌^◌, ◌<◌, ◌≤◌, sym, refl, ap, ◌∙◌, subst, zero-le, lt_of_le_of_lt, add_assoc, arith, lit<, lit≤, pow_pos}
+use Rattle.std.proofs.Common.{◌≡◌, ℕ, zero, suc, ◌+◌, ◌*◌, ◌/◌, ◌^◌, ◌<◌, ◌≤◌, sym, refl, ap, ◌∙◌, subst, zero-le, lt_of_le_of_lt, add_assoc, arith, lit<, lit≤, pow_pos}
 use native.Mathlib.Nat.{pow-succ'}
 use Rattle.float.specs.Sqrt.{isqrt}
 use Rattle.square_root.proofs.Squares.{is-isqrt, square-mono}

@@ -7,4 +7,4 @@ pub returns-then-row-eq0 : goal.returns-then-row-eq0
 returns-then-row-eq0 c = ap parts c.trs_in.ensures ∙ not_there _ _ _ c.if-row-eq0.true
 
 pub returns : goal.returns
-returns c = ap matrix (c.entries_of.ensures ∙ c.load.ensures) ∙ is-there _ _ _ c.if-row-eq0.false
+returns c = ap matrix c.load.ensures ∙ is-there _ _ _ c.if-row-eq0.false

@@ -1,28 +1,26 @@
-use mathlib.Core.Path.{sym}
+use mathlib.Core.Path.{sym, ap}
+use Rattle.std.proofs.Common.{Ok}
 use borrow.Author.Rules.{rules}
 use lib.Seq.{length-take-le}
-use Rattle.track_entries.proofs.Delivering.{wrote-vec3, wrote-quat, wrote_nothing}
+use Rattle.track_entries.proofs.Delivering.{wrote-vec3, wrote-quat}
 use Rattle.track_entries.proofs.Delivering.{weights-inside, wrote-weights}
 use Rattle.track_entries.proofs.bytes.deliver.Goals as goal
 
 pub slice_bounds-write_floats-end-in-Scalar : goal.slice_bounds-write_floats-end-in-Scalar
 slice_bounds-write_floats-end-in-Scalar c =
-    sym (length-take-le _ _ (weights-inside _ _ _ c.in-Scalar.is c.requires.0))
+    sym (length-take-le _ _ (weights-inside _ _ _ (ap Ok c.in-Scalar.is) c.requires.0))
 
 pub returns-in-Vec3 : goal.returns-in-Vec3
 returns-in-Vec3 c =
-    wrote-vec3 _ _ _ _ _ _ _ c.in-Vec3.is (search rules)
+    wrote-vec3 _ _ _ _ _ _ _ (ap Ok c.in-Vec3.is) (search rules)
     c.write_floats.ensures
 
 pub returns-in-Quat : goal.returns-in-Quat
 returns-in-Quat c =
-    wrote-quat _ _ _ _ _ _ _ c.in-Quat.is (search rules)
+    wrote-quat _ _ _ _ _ _ _ (ap Ok c.in-Quat.is) (search rules)
     c.write_floats-in-Quat.ensures
 
 pub returns-in-Scalar : goal.returns-in-Scalar
 returns-in-Scalar c =
-    wrote-weights _ _ _ _ _ _ _ c.in-Scalar.is
+    wrote-weights _ _ _ _ _ _ _ (ap Ok c.in-Scalar.is)
     c.requires c.write_floats-count.ensures
-
-pub returns-in-Refused : goal.returns-in-Refused
-returns-in-Refused c = wrote_nothing _ _ _ _ _ c.in-Refused.is

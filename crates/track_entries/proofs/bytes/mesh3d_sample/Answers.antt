@@ -13,8 +13,9 @@ sample_over-requires c = length-take-le _ _ (search rules) ∙ c.least-most.ensu
 pub returns-then-is_unnamed : goal.returns-then-is_unnamed
 returns-then-is_unnamed c =
     let a = c.args in
-    not-handed a.table.now _ _ c.row_for-row.ensures _ a.room.now a.value.now a.out.now
-    (sym c.is_unnamed.ensures ∙ c.if-is_unnamed.true)
+    rw c.refused.ensures
+    (not-handed a.table.now _ _ c.row_for-row.ensures _ a.room.now a.value.now a.out.now
+    (sym c.is_unnamed.ensures ∙ c.if-is_unnamed.true))
 
 pub returns : goal.returns
 returns c =

@@ -1,5 +1,6 @@
 use mathlib.Core.Path.{refl, sym, ◌∙◌}
 use Prim.Native.Nat.{ℕ}
+use Rattle.refusals.specs.declared.Refusal.TheVariants.{OverLimit}
 use Rattle.model.specs.Scene.{Track}
 use Rattle.model.specs.Calls.{sampled}
 use Rattle.track_entries.proofs.Decoding.{refused-with}
@@ -11,7 +12,7 @@ returns-then-is_unnamed c =
     let a = c.args in
     without-name (λ (g : ℕ) (tr : Track). sampled g tr a.time a.out.now) a.floats.now
     a.row _ refl _ (table-draws _ _) (sym c.is_unnamed.ensures ∙ c.if-is_unnamed.true) _
-    (λ tr. refused-with tr a.time a.out.now 2 1 refl)
+    (λ tr. refused-with tr a.time a.out.now 2 OverLimit refl)
 
 pub returns : goal.returns
 returns c =

@@ -5,6 +5,3 @@ use Rattle.tracks.proofs.keys.keys_in_line.Given as goal
 
 abbrev pub invariant-loop-i : goal.invariant-loop-i
 invariant-loop-i l = Tested l.keys l.last l.rising l.i
-
-abbrev pub decreases-loop-i : goal.decreases-loop-i
-decreases-loop-i l = length l.keys - l.i

@@ -1,5 +1,5 @@
 use mathlib.Core.Path.{◌≡◌}
-use Prim.Native.Nat.{◌-◌, ◌≤◌}
+use Prim.Native.Nat.{◌≤◌}
 use lib.ListN.{length}
 use Rattle.model.specs.Lists.{row}
 use Rattle.transform.specs.Blocks.{begun, rows_from}
@@ -7,6 +7,3 @@ use Rattle.transform.proofs.blocks.put.Given as goal
 
 abbrev pub invariant-loop-i : goal.invariant-loop-i
 invariant-loop-i l = (l.i ≤ 16) × (length l.s ≡ length l.initial.s) × (l.s ≡ rows_from l.w (λ j. begun (row 3 l.d j)) l.k l.initial.s l.i)
-
-abbrev pub decreases-loop-i : goal.decreases-loop-i
-decreases-loop-i l = 16 - l.i

@@ -1,5 +1,5 @@
 use mathlib.Core.Path.{◌≡◌, refl, ap, ◌∙◌}
-use Prim.Native.Nat.{ℕ, ◌-◌, ◌*◌, ◌/◌}
+use Prim.Native.Nat.{ℕ, ◌*◌, ◌/◌}
 use native.Mathlib.Nat.{div-le_self}
 use native.Mathlib.Omega.{arith}
 use lib.ListN.{length}
@@ -25,9 +25,6 @@ turn_block-requires c =
     let a = c.args in
     let l = c.loop-b in
     (c.requires.0, c.requires.1, omega (arith, l.invariant.2, block-fits a.w l.b (length a.s.now) (omega (arith, l.invariant.1))))
-
-pub overflow_add-b : goal.overflow_add-b
-overflow_add-b c = omega (arith, div-le_self (length c.args.s.now) c.args.w, c.loop-b.invariant.1)
 
 pub loop-b-preserved : goal.loop-b-preserved
 loop-b-preserved c =

@@ -1,5 +1,5 @@
 use mathlib.Core.Path.{◌≡◌}
-use Prim.Native.Nat.{◌-◌, ◌*◌, ◌/◌, ◌≤◌}
+use Prim.Native.Nat.{◌*◌, ◌/◌, ◌≤◌}
 use lib.ListN.{length}
 use Rattle.scene.specs.Values.{mat3}
 use Rattle.vertex_rows.specs.Rows.{first_rows}
@@ -8,6 +8,3 @@ use Rattle.transform.proofs.blocks.turn_blocks.Given as goal
 
 abbrev pub invariant-loop-b : goal.invariant-loop-b
 invariant-loop-b l = (l.b ≤ l.n) × (l.n ≡ length l.initial.s / l.w / 16) × (length l.s ≡ length l.initial.s) × (l.s ≡ first_rows l.w (λ _. xyz_turned (mat3 l.l)) l.initial.s (l.b * 16))
-
-abbrev pub decreases-loop-b : goal.decreases-loop-b
-decreases-loop-b l = l.n - l.b

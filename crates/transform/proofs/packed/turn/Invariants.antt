@@ -1,5 +1,5 @@
 use mathlib.Core.Path.{◌≡◌}
-use Prim.Native.Nat.{◌-◌, ◌*◌, ◌≤◌}
+use Prim.Native.Nat.{◌*◌, ◌≤◌}
 use lib.ListN.{drop}
 use Rattle.model.specs.Lists.{row}
 use Rattle.model.specs.Matrix.{turned}
@@ -10,6 +10,3 @@ use Rattle.transform.proofs.packed.turn.Given as goal
 -- the vectors that are not turned yet are as lent
 abbrev pub invariant-loop-i : goal.invariant-loop-i
 invariant-loop-i l = (l.i ≤ 16) × (drop (l.i * 3) l.d ≡ drop (l.i * 3) l.initial.d) × Measured l.i (λ j. turned (mat3 l.l) (row 3 l.initial.d j)) l.d l.out
-
-abbrev pub decreases-loop-i : goal.decreases-loop-i
-decreases-loop-i l = 16 - l.i

@@ -1,11 +1,8 @@
 use mathlib.Core.Path.{◌≡◌}
-use Prim.Native.Nat.{◌-◌, ◌/◌, ◌≤◌}
+use Prim.Native.Nat.{◌/◌, ◌≤◌}
 use lib.ListN.{length}
 use Rattle.vertex_rows.specs.Rows.{flipped, first_rows}
 use Rattle.vertex_rows.proofs.directions.flip_tangents.Given as goal
 
 abbrev pub invariant-loop-k : goal.invariant-loop-k
 invariant-loop-k l = (l.k ≤ l.n) × (l.n ≡ length l.initial.tangents / 4) × (length l.tangents ≡ length l.initial.tangents) × (l.tangents ≡ first_rows 4 (λ _. flipped) l.initial.tangents l.k)
-
-abbrev pub decreases-loop-k : goal.decreases-loop-k
-decreases-loop-k l = l.n - l.k

@@ -1,9 +1,5 @@
-use Rattle.vertex_rows.proofs.Turned.{has-unit, no-unit}
-use borrow.Author.Rules.{rules}
+use Rattle.vertex_rows.proofs.Turned.{by-direction}
 use Rattle.vertex_rows.proofs.directions.turned_unit.Goals as goal
 
-pub returns-in-Unit : goal.returns-in-Unit
-returns-in-Unit c = search (rules, has-unit)
-
-pub returns-in-None : goal.returns-in-None
-returns-in-None c = search (rules, no-unit)
+pub returns : goal.returns
+returns c = rw c.unwrap_or.ensures (by-direction _ c.args.v _ _ c.mul3.ensures c.normalize3.ensures)

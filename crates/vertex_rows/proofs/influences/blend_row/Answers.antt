@@ -1,21 +1,20 @@
-use mathlib.Core.Path.{◌≡◌}
-use Prim.Native.Nat.{◌-◌}
+use mathlib.Core.Path.{◌≡◌, refl, ap, ◌∙◌}
 use native.Mathlib.Omega.{arith}
 use Rattle.model.specs.Lists.{rows_in}
-use Rattle.model.specs.Vertices.{influences}
-use Rattle.vertex_rows.proofs.Blended.{blends-none, next-influence, all-four}
+use Rattle.model.specs.Vertices.{influences, mixture}
+use Rattle.vertex_rows.proofs.Blended.{next-influence, all-four}
 use Rattle.vertex_rows.proofs.influences.blend_row.Goals as goal
 
 pub loop-e-init : goal.loop-e-init
 unfolding influences
-loop-e-init c = (omega arith, blends-none)
+loop-e-init c = (omega arith, refl)
 
 pub loop-e-preserved : goal.loop-e-preserved
 loop-e-preserved c =
     let a = c.args in
     let l = c.loop-e in (
       omega arith,
-      next-influence (rows_in 16 a.palette.now) a.joints.now a.weights.now a.v c.requires.0 c.requires.1 l.e _ l.b _ (omega arith) l.invariant.1 c.wide.ensures.0 c.add_influence-b.ensures,
+      next-influence (rows_in 16 a.palette.now) a.joints.now a.weights.now a.v c.requires.0 c.requires.1 l.e _ l.sum _ (omega arith) l.invariant.1 c.wide.ensures.0 c.add_influence-sum.ensures,
     )
 
 pub returns : goal.returns
@@ -23,4 +22,4 @@ returns c =
     let a = c.args in
     let l = c.loop-e in
     let e : l.e ≡ 4 = omega (arith, c.loop-e-test.false) in
-    all-four (rows_in 16 a.palette.now) a.joints.now a.weights.now a.v c.requires.0 c.requires.1 l.b l.e e l.invariant.1
+    l.invariant.1 ∙ ap mixture (all-four (rows_in 16 a.palette.now) a.joints.now a.weights.now a.v c.requires.0 c.requires.1 l.e e)

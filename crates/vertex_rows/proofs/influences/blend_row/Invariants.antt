@@ -1,12 +1,10 @@
-use Prim.Native.Nat.{◌-◌, ◌≤◌}
+use mathlib.Core.Path.{◌≡◌}
+use Prim.Native.Nat.{◌≤◌}
 use lib.ListN.{take}
 use Rattle.model.specs.Lists.{row, rows_in}
-use Rattle.model.specs.Vertices.{influences}
-use Rattle.vertex_rows.specs.Blending.{Blends}
+use Rattle.model.specs.Vertices.{influences, mixture}
+use Rattle.scene.specs.Values.{matrix_of}
 use Rattle.vertex_rows.proofs.influences.blend_row.Given as goal
 
 abbrev pub invariant-loop-e : goal.invariant-loop-e
-invariant-loop-e l = (l.e ≤ 4) × Blends (influences (rows_in 16 l.palette) (take l.e (row 4 l.joints l.v)) (take l.e (row 4 l.weights l.v))) l.b
-
-abbrev pub decreases-loop-e : goal.decreases-loop-e
-decreases-loop-e l = 4 - l.e
+invariant-loop-e l = (l.e ≤ 4) × (matrix_of l.sum ≡ mixture (influences (rows_in 16 l.palette) (take l.e (row 4 l.joints l.v)) (take l.e (row 4 l.weights l.v))))

@@ -11,6 +11,3 @@ invariant-loop-k l =
     (l.k ≤ length l.order)
     × (l.worlds ≡ foldl (placed_in (local_in l.words l.floats l.nodes l.marks l.slots) l.places) l.initial.worlds (take l.k l.order))
     × (length l.worlds ≡ length l.initial.worlds)
-
-abbrev pub decreases-loop-k : goal.decreases-loop-k
-decreases-loop-k l = length l.order - l.k

@@ -11,4 +11,4 @@ returns c =
     let a = c.args in
     let local = local_in a.words.now a.floats.now a.nodes a.marks.now a.slots.now in
     c.place_worlds.ensures
-    ∙ ap (λ (w : List Float). foldl (placed_in local a.places.now) w a.order.now) c.wipe_floats.ensures
+    ∙ ap (λ (w : List Float). foldl (placed_in local a.places.now) w a.order.now) (c.fill.ensures.after (λ _ e. e))

@@ -1,7 +1,0 @@
-use mathlib.Core.Path.{refl}
-use mathlib.Core.List.{zip_with}
-use Rattle.blend.proofs.weighted4.Goals as goal
-
-pub returns : goal.returns
-unfolding zip_with
-returns c = refl

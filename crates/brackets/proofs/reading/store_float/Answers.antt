@@ -1,9 +1,0 @@
-use native.Mathlib.Numerals.{add-one}
-use Rattle.brackets.proofs.ReadingLaws.{no_room}
-use Rattle.brackets.proofs.reading.store_float.Goals as goal
-
-pub returns-then-k-cells : goal.returns-then-k-cells
-returns-then-k-cells c xs = rw (add-one, c.from_bits.ensures)
-
-pub returns : goal.returns
-returns c = no_room _ _ _ c.if-k-cells.false

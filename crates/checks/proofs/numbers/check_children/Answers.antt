@@ -1,0 +1,12 @@
+use mathlib.Core.Path.{ap, ◌∙◌}
+use Rattle.checks.specs.Drawn.{sum_below, child_count, entries_number, children_number}
+use Rattle.checks.proofs.Lowest.{capped-number}
+use Rattle.checks.proofs.numbers.check_children.Goals as goal
+
+pub returns : goal.returns
+unfolding children_number
+returns c =
+    let a = c.args in
+    c.check_entries.ensures
+    ∙ ap entries_number c.child_entries.ensures
+    ∙ capped-number (sum_below a.nodes.count (child_count a.words.now a.nodes))

@@ -1,4 +1,0 @@
-use Rattle.lists.proofs.Checked.floats.Goals as goal
-
-pub returns : goal.returns
-returns c = cc

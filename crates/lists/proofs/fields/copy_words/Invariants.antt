@@ -1,9 +1,0 @@
-use Prim.Native.Nat.{◌-◌}
-use Rattle.model.proofs.Filling.{Filled}
-use Rattle.lists.proofs.fields.copy_words.Given as goal
-
-abbrev pub invariant-loop-i : goal.invariant-loop-i
-invariant-loop-i l = Filled l.words l.initial.out l.n l.out l.i
-
-abbrev pub decreases-loop-i : goal.decreases-loop-i
-decreases-loop-i l = l.n - l.i

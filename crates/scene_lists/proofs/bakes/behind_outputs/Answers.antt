@@ -1,4 +1,0 @@
-use Rattle.scene_lists.proofs.bakes.behind_outputs.Goals as goal
-
-pub returns : goal.returns
-returns c = cc
