@@ -1,17 +1,16 @@
 -- Demand 3, of this very bake: however the other nodes of a shared scene are changed, what a node's bake answers and puts out stays the same.
 -- Assumes nothing.
 use mathlib.Core.Path.{◌≡◌, sym, ap, ◌∙◌, subst}
-use mathlib.Core.List.{List}
 use Prim.Native.Nat.{ℕ, ◌/◌, ◌≤◌, min}
 use lib.Ieee.{Float}
-use lib.ListN.{length, take}
+use lib.ListN.{take}
 use Rattle.model.specs.Bake as model
 use Rattle.model.specs.Agree.{Agree, Past6}
 use Rattle.model.proofs.Demand as proved
 use Rattle.tables.specs.Decoded.{Lent, scene_of}
 use Rattle.checks.specs.Drawn.{tables_number}
 use Rattle.bake.specs.declared.Answer.{Answer}
-use Rattle.bake.specs.Baked.{Room, Change, request_of, outcome, answer_of, room_after, Baked}
+use Rattle.bake.specs.Baked.{Room, Change, request_of, outcome, room_after, Baked}
 use Rattle.bake.specs.Isolation.{SameLengths, NotRefusedEarly, SameShown}
 use Rattle.bake.proofs.TablesRange.{tables-at-most-2}
 

@@ -1,10 +1,9 @@
 -- The bake of the model, refused or accepted, and the room that it leaves. Assumes nothing.
 use mathlib.Core.Path.{◌≡◌, refl, sym, ap, ◌∙◌}
 use mathlib.Core.Bool.{Bool, true, false}
-use mathlib.Core.List.{List, [], map}
+use mathlib.Core.List.{List, map}
 use mathlib.Core.Option.{Option, none, some}
-use Prim.Native.Nat.{ℕ, zero, suc, ◌≤◌}
-use native.Mathlib.Omega.{arith}
+use Prim.Native.Nat.{ℕ, zero, suc}
 use lib.Ieee.{Float}
 use lib.ListN.{length}
 use Rattle.model.specs.Lists.{pick, is_some}
@@ -18,7 +17,7 @@ use Rattle.model.specs.Bake as model
 use Rattle.tables.specs.Decoded.{Lent, scene_of}
 use Rattle.checks.specs.Drawn.{tables_number}
 use Rattle.bake_stages.specs.Numbers.{late_number}
-use Rattle.bake_stages.specs.Scratch.{Slices, room_of, scratch_left}
+use Rattle.bake_stages.specs.Scratch.{room_of, scratch_left}
 use Rattle.bake.specs.declared.Answer.{Answer}
 use Rattle.bake.specs.Baked.{Room, request_of, outcome, answer_of, room_after, Baked}
 

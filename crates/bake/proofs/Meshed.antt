@@ -1,5 +1,5 @@
 -- The mesh of a node in checked tables: its primitives can be put out, and how many floats they have. Assumes nothing.
-use mathlib.Core.Path.{◌≡◌, refl, sym, ap, ◌∙◌, subst}
+use mathlib.Core.Path.{◌≡◌, refl, sym, ap, ◌∙◌}
 use mathlib.Core.Bool.{Bool, true, false, ◌&&◌, false≢true}
 use mathlib.Core.List.{List, [], map}
 use mathlib.Core.Option.{Option, none, some}
@@ -7,10 +7,10 @@ use Prim.Native.Nat.{ℕ, ◌+◌, ◌*◌, ◌≤◌, ◌<◌}
 use native.Mathlib.Omega.{arith}
 use native.Mathlib.Decide.{dec_lt}
 use borrow.Author.Tests.{leb-true, ltb-true, ltb-false}
-use lib.Dec.{leb, ltb}
+use lib.Dec.{ltb}
 use lib.Ieee.{Float}
 use lib.ListN.{length, get_elem?, get_or-eq_default}
-use Rattle.model.specs.Lists.{pick, joined, is_some, and_then}
+use Rattle.model.specs.Lists.{pick, is_some, and_then}
 use Rattle.model.specs.Matrix.{Matrix}
 use Rattle.model.specs.Scene.{Node, Primitive, blank, mesh_at}
 use Rattle.model.specs.Vertices.{Shape}
@@ -20,16 +20,16 @@ use Rattle.model.proofs.RowLaws.{flat}
 use Rattle.tracks.specs.declared.Part.{Part}
 use Rattle.tables.specs.declared.NodeRow.{NodeRow}
 use Rattle.tables.specs.declared.MeshRow.{MeshRow}
-use Rattle.tables.specs.Records.{node_row, mesh_row, primitive_row}
+use Rattle.tables.specs.Records.{node_row, mesh_row}
 use Rattle.tables.specs.Tags.{is_marked}
 use Rattle.tables.specs.Decoded.{Lent, primitive_of, mesh_of, scene_of}
 use Rattle.tables.proofs.Decoding.{node-count, node-at, mesh-at, no-mesh}
-use Rattle.row_checks.specs.Places.{fits_in, slot_fits, mesh_fits, primitive_fits}
+use Rattle.row_checks.specs.Places.{fits_in, slot_fits}
 use Rattle.checks.specs.declared.Table.TheVariants as table
-use Rattle.checks.specs.Drawn.{tables_number, sizes_of, sum_below}
+use Rattle.checks.specs.Drawn.{sizes_of}
 use Rattle.checks.specs.Checked.{Checked}
 use Rattle.shapes.specs.declared.Lengths.{Lengths}
-use Rattle.shapes.specs.Rest.{primitives_in, row_lengths, row_at, lengths_below, RowFits, Counted, Drawable}
+use Rattle.shapes.specs.Rest.{primitives_in, row_lengths, row_at, lengths_below, Drawable}
 use Rattle.shapes.proofs.Putting.{Floats, floats-of, joined-mapped, below_length}
 
 -- the record of node i, and of its mesh

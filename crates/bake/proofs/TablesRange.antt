@@ -1,20 +1,19 @@
 -- What tables draw is 0, 1 or 2. Assumes nothing.
 use mathlib.Core.Bool.{Bool, true, false, ◌&&◌}
 use mathlib.Core.List.{List}
-use Prim.Native.Nat.{ℕ, zero, suc, ◌≤◌, ◌<◌}
+use Prim.Native.Nat.{ℕ, zero, suc, ◌≤◌}
 use native.Mathlib.Omega.{arith}
 use lib.Dec.{ltb}
 use lib.Ieee.{Float}
 use lib.ListN.{length}
 use Rattle.model.specs.Lists.{pick}
 use Rattle.model.specs.Refusals.{track_over_limit}
-use Rattle.tracks.specs.declared.Part.{Part}
 use Rattle.tracks.specs.declared.Track.{Track}
 use Rattle.tracks.specs.Tracks as tracks
 use Rattle.tables.specs.Decoded.{Lent}
 use Rattle.checks.specs.declared.Table.{Table}
 use Rattle.checks.specs.declared.Table.TheVariants as table
-use Rattle.checks.specs.Drawn.{drawn, lower_of, lowest_below, node_number, channel_number, mesh_number, primitive_number, target_number, in_between_number, skin_number, skeleton_number, row_number, table_of, table_number, whole_number, children_number, listed_number, sizes_of, tables_number}
+use Rattle.checks.specs.Drawn.{drawn, lower_of, lowest_below, node_number, channel_number, mesh_number, primitive_number, target_number, in_between_number, skin_number, skeleton_number, row_number, table_of, whole_number, children_number, listed_number, sizes_of, tables_number}
 
 chosen : (b : Bool) (x y : ℕ) → x ≤ 2 → y ≤ 2 → pick b x y ≤ 2
 chosen true x y h k = h

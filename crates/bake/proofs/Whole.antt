@@ -1,9 +1,9 @@
 -- The whole bake, from what its stages tell. Assumes nothing.
 use mathlib.Core.Path.{◌≡◌, refl, sym, ap, ◌∙◌, subst}
 use mathlib.Core.Bool.{Bool, true, false, ◌&&◌, false≢true}
-use mathlib.Core.List.{List, map}
+use mathlib.Core.List.{List}
 use mathlib.Core.Option.{Option, none, some}
-use Prim.Native.Nat.{ℕ, zero, suc, ◌≤◌, ◌<◌}
+use Prim.Native.Nat.{ℕ, zero, suc}
 use native.Mathlib.Omega.{arith}
 use borrow.Author.Tests.{leb-true}
 use lib.Dec.{leb}
@@ -18,14 +18,14 @@ use Rattle.model.specs.Refusals.{lowest, early_number}
 use Rattle.model.specs.Bake as model
 use Rattle.model.proofs.Tests.{both}
 use Rattle.tracks.specs.declared.Part.{Part}
-use Rattle.tables.specs.Records.{node_row, skeleton_row}
+use Rattle.tables.specs.Records.{node_row}
 use Rattle.tables.specs.Decoded.{Lent, mesh_of, scene_of}
 use Rattle.checks.specs.declared.Table.TheVariants as table
 use Rattle.checks.specs.Drawn.{tables_number}
 use Rattle.checks.specs.Checked.{Checked}
 use Rattle.checks.proofs.Clearing.{checked}
 use Rattle.shapes.specs.declared.Lengths.{Lengths}
-use Rattle.shapes.specs.Rest.{lengths_below, AtMost, Drawable, PutOut}
+use Rattle.shapes.specs.Rest.{lengths_below, AtMost, Drawable}
 use Rattle.bake_stages.specs.Scratch.{Slices, room_of, scratch_left}
 use Rattle.bake_stages.specs.Skinned.{world_from, palette_from}
 use Rattle.bake_stages.specs.Numbers.{late_number}
@@ -33,9 +33,9 @@ use Rattle.bake_stages.proofs.Drawing.{early-accepted}
 use Rattle.bake_writing.specs.Delivered.{mesh_record, part_of, SkeletonsWithin, Delivered}
 use Rattle.bake_writing.proofs.Finishing.{worlds-are, palette-is}
 use Rattle.bake.specs.declared.Answer.{Answer}
-use Rattle.bake.specs.Baked.{Room, request_of, outcome, answer_of, room_after, Baked}
+use Rattle.bake.specs.Baked.{Room, request_of, answer_of, Baked}
 use Rattle.bake.proofs.Meshed.{MeshIs, mesh-is, drawable, Measured, measured}
-use Rattle.bake.proofs.Judging.{world_now, palette_now, posed_now, own_now, result_now, refusal, refused-late, accepted}
+use Rattle.bake.proofs.Judging.{world_now, palette_now, posed_now, own_now, result_now, refused-late, accepted}
 
 -- said of an equal answer, and of an equal room
 pub said : (l : Lent) (i : ℕ) (time : Float) (lent left left' : Room) (a b : Answer) → left' ≡ left → a ≡ b → Baked l i time (record { from = lent; to = left }) b → Baked l i time (record { from = lent; to = left' }) a

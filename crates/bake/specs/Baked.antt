@@ -1,12 +1,14 @@
 -- What `world_mesh_at` answers and leaves: the bake of the model, in lent room. Definitions only.
-use Rattle.std.specs.Prelude.{◌≡◌, ℕ, Float, length, Result, Ok, Err}
+use Rattle.std.specs.Prelude.{◌≡◌, List, ℕ, Float, length, Result, Ok, Err}
 use Rattle.borrowed.specs.Slices.{Words, Floats}
 use Rattle.borrowed.specs.Slices as borrowed
+use Rattle.borrowed.specs.declared.Vertices.{Vertices}
 use Rattle.model.specs.Lists.{pick, is_some}
 use Rattle.model.specs.Bake as model
 use Rattle.tables.specs.Decoded.{Lent, scene_of}
 use Rattle.checks.specs.Drawn.{tables_number}
-use Rattle.bake_stages.specs.Scratch.{Slices, scratch_room, room_of, scratch_left}
+use Rattle.worlds.specs.declared.Room as lent
+use Rattle.bake_stages.specs.Scratch.{Slices, scratch_room, slices_in, room_of, scratch_left}
 use Rattle.refusals.specs.declared.Refusal.{Refusal}
 use Rattle.refusals.specs.Drawn.{number_of}
 use Rattle.bake.specs.declared.Put.{Put}
@@ -43,6 +45,19 @@ room marks slots walk places worlds positions normals tangents =
       from = record { scratch = scratch.from; output = output.from };
       to = record { scratch = scratch.to; output = output.to };
     }
+
+-- the same where walk room and world slots, and the outputs, are lent as one each
+abbrev pub room_in : List ℕ → List Float → lent.Room → Vertices → Room
+room_in marks slots scratch out = record {
+  scratch = slices_in marks slots scratch;
+  output = record { positions = out.positions.now; normals = out.normals.now; tangents = out.tangents.now };
+}
+
+abbrev pub room_lent : Words → Floats → lent.Room → lent.Room → Vertices → Vertices → Change
+room_lent marks slots old new lent left = record {
+  from = room_in marks.entry.now slots.entry.now old lent;
+  to = room_in marks.exit.now slots.exit.now new left;
+}
 
 -- node i at a time, with as much room
 abbrev pub request_of : ℕ → Float → Room → model.Request

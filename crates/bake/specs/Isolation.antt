@@ -1,6 +1,6 @@
 -- Two makers in one scene: demand 3; scope, "Two makers, one scene". What two runs are lent alike, and what they then
 -- show alike. Definitions only.
-use Rattle.std.specs.Prelude.{◌≡◌, ℕ, ◌≤◌, length, take}
+use Rattle.std.specs.Prelude.{◌≡◌, ◌≤◌, length, take}
 use Rattle.model.specs.Refusals.{number, out_of_table, short_scratch}
 use Rattle.bake.specs.declared.Answer.{Answer}
 use Rattle.bake.specs.Baked.{Room}

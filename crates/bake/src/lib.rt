@@ -1,13 +1,17 @@
 // The bake of one node: `world_mesh_at` of pose.rs.
 #![tactic(auto)]
 
-ghost use Rattle.std.specs.Prelude.{◌≡◌, ◌&&◌, leb};
-ghost use Rattle.checks.specs.Drawn.{scene_lent};
-ghost use Rattle.bake.specs.Baked.{room, told_by, Baked};
+ghost use Rattle.std.specs.Prelude.{◌≡◌, ◌&&◌, leb, length};
+ghost use Rattle.tables.specs.Decoded.{lent_of};
+ghost use Rattle.worlds.specs.Rooms.{SameRoom};
+ghost use Rattle.borrowed.specs.Attributes.{SameSlices};
+ghost use Rattle.bake.specs.Baked.{room_lent, told_by, Baked};
 
+use borrowed::Vertices;
 use refusals::Refusal;
 use shapes::Lengths;
-use tables::Header;
+use tables::Lent;
+use worlds::Room;
 
 // What a bake tells: how many floats were put out, and how many entries the placing took.
 #[derive(Clone, Copy)]
@@ -52,68 +56,39 @@ impl From<Result<Put, Refusal>> for Answer {
 }
 
 // Whether so many floats have room.
-fn fits(n: Lengths, positions: usize, normals: usize, tangents: usize) -> bool
-    ensures { result ≡ (leb n.positions positions && leb n.normals normals && leb n.tangents tangents) }
+fn fits(n: Lengths, out: &Vertices<'_>) -> bool
+    ensures { result ≡ (leb n.positions (length out.now.positions.now) && leb n.normals (length out.now.normals.now)
+        && leb n.tangents (length out.now.tangents.now)) }
 {
-    (n.positions <= positions) & (n.normals <= normals) & (n.tangents <= tangents)
+    (n.positions <= out.positions.len())
+        & (n.normals <= out.normals.len())
+        & (n.tangents <= out.tangents.len())
 }
 
 // The mesh of a node in the world at a time: blended, skinned or transformed, its primitives one after the other in the
 // three outputs. The scratch room (pose slots, walk room, world slots) is lent, and holds the pose and the placing
 // after.
-pub fn world_mesh_at<'a>(
-    words: &[u32],
-    floats: &[f32],
-    node_weights: &'a [f32],
-    mesh_weights: &'a [f32],
-    h: Header,
+pub fn world_mesh_at(
+    lent: Lent,
     node: u32,
     time: f32,
     marks: &mut [u32],
     slots: &mut [f32],
-    walk: &mut [u32],
-    places: &mut [u32],
-    worlds: &mut [f32],
-    positions: &mut [f32],
-    normals: &mut [f32],
-    tangents: &mut [f32],
+    room: &mut Room<'_>,
+    out: &mut Vertices<'_>,
 ) -> Result<Put, Refusal>
-    ensures { Baked (scene_lent words floats node_weights mesh_weights h) node time
-        (room marks slots walk places worlds positions normals tangents) (told_by result) }
+    ensures same_room { SameRoom room.old room.new }
+    ensures same_outputs { SameSlices out.old out.new }
+    ensures baked { Baked (lent_of lent.entry) node time
+        (room_lent marks slots room.old room.new out.old out.new) (told_by result) }
 {
-    bake_stages::check_first(
-        words,
-        floats,
-        node_weights,
-        mesh_weights,
-        h,
-        node,
-        time,
-        walk.len() / 2,
-        wire::least(marks.len() / 4, slots.len() / 10),
-        wire::least(places.len(), worlds.len() / 16),
-    )?;
-    let taken = bake_stages::pose_and_place(
-        words, floats, h, time, marks, slots, walk, places, worlds,
-    );
-    let mesh = bake_writing::mesh_of(words, h, node);
-    let n = shapes::mesh_lengths(words, h.meshes.primitives, mesh.primitives);
-    let fit = fits(n, positions.len(), normals.len(), tangents.len());
-    bake_stages::check_late(words, floats, h, node, places, fit)?;
-    bake_writing::deliver(
-        words,
-        floats,
-        node_weights,
-        mesh_weights,
-        h,
-        node,
-        time,
-        marks,
-        places,
-        worlds,
-        positions,
-        normals,
-        tangents,
-    );
+    let space = worlds::space_in(marks, slots, room);
+    bake_stages::check_first(lent, node, time, space)?;
+    let taken = bake_stages::pose_and_place(lent, time, marks, slots, room);
+    let mesh = bake_writing::mesh_of(lent, node);
+    let n = shapes::mesh_lengths(lent.words, lent.header.meshes.primitives, mesh.primitives);
+    let fit = fits(n, out);
+    bake_stages::check_late(lent, node, room, fit)?;
+    bake_writing::deliver(lent, node, time, marks, room, out);
     Ok(Put { lengths: n, taken })
 }

@@ -1,16 +1,18 @@
 ghost use Rattle.checks.specs.Drawn.{scene_lent};
 ghost use Rattle.bake.specs.Baked.{room, Baked};
 
-use tables::Header;
+use borrowed::Vertices;
+use tables::{Header, Lent};
+use worlds::Room;
 
 // The mesh of a node in the world at a time, its primitives one after the other in the three outputs. Answers 1, 2, 3,
 // 5 to 10 or 0.
 #[unsafe(no_mangle)]
-pub extern "C" fn mesh3d_bake_floats<'a>(
+pub extern "C" fn mesh3d_bake_floats(
     words: &[u32],
     floats: &[f32],
-    node_weights: &'a [f32],
-    mesh_weights: &'a [f32],
+    node_weights: &[f32],
+    mesh_weights: &[f32],
     header: Header,
     node: u32,
     time: f32,
@@ -26,21 +28,22 @@ pub extern "C" fn mesh3d_bake_floats<'a>(
     ensures { Baked (scene_lent words floats node_weights mesh_weights header) node time
         (room marks slots walk places worlds positions normals tangents) result }
 {
-    bake::Answer::from(bake::world_mesh_at(
+    let lent = Lent {
         words,
         floats,
         node_weights,
         mesh_weights,
         header,
-        node,
-        time,
-        marks,
-        slots,
+    };
+    let mut scratch = Room {
         walk,
         places,
         worlds,
+    };
+    let mut out = Vertices {
         positions,
         normals,
         tangents,
-    ))
+    };
+    bake::Answer::from(bake::world_mesh_at(lent, node, time, marks, slots, &mut scratch, &mut out))
 }

@@ -3,7 +3,7 @@ ghost use Rattle.checks.specs.Drawn.{scene_lent};
 ghost use Rattle.bake_room.specs.Needed.{room_for};
 
 use bake_room::Room;
-use tables::Header;
+use tables::{Header, Lent};
 
 // The lengths of the slices that a bake of a node needs. Answers 1, 2, 7 or 0.
 #[unsafe(no_mangle)]
@@ -17,5 +17,12 @@ pub extern "C" fn mesh3d_bake_room(
 ) -> Room
     ensures { result ≡ room_for (scene_lent words floats node_weights mesh_weights header) node }
 {
-    bake_room::room_for(words, floats, node_weights, mesh_weights, header, node)
+    let lent = Lent {
+        words,
+        floats,
+        node_weights,
+        mesh_weights,
+        header,
+    };
+    Room::from(bake_room::room_for(lent, node))
 }

@@ -1,14 +1,17 @@
 -- How much room a bake of one node needs, as lengths of slices in entries: docs/TABLES.md, "Calls on a scene".
 -- Definitions only.
-use Rattle.std.specs.Prelude.{[], ℕ, zero, suc, ◌+◌, ◌*◌, length}
+use Rattle.std.specs.Prelude.{[], ℕ, zero, suc, ◌+◌, ◌*◌, length, Result, Ok, Err}
 use Rattle.std.proofs.Math.Option.{Option, none, some}
 use Rattle.model.specs.Lists.{sum_of, or_else}
 use Rattle.model.specs.Scene.{Scene, Mesh, Primitive, node_count, mesh_at}
 use Rattle.model.specs.Placing.{child_entries}
 use Rattle.model.specs.Refusals.{number, no_such_node}
+use Rattle.refusals.specs.declared.Refusal.{Refusal}
+use Rattle.refusals.specs.Drawn.{number_of}
 use Rattle.tables.specs.Decoded.{Lent, scene_of}
 use Rattle.checks.specs.Drawn.{tables_number}
 use Rattle.shapes.specs.declared.Lengths.{Lengths}
+use Rattle.bake_room.specs.declared.RoomLengths.{RoomLengths}
 use Rattle.bake_room.specs.declared.Room.{Room}
 
 -- refused: every length is 0
@@ -24,6 +27,21 @@ no_room n = record {
   normals = 0;
   tangents = 0;
 }
+
+-- what a C function answers
+abbrev pub answer_of : Result RoomLengths Refusal → Room
+answer_of (Ok n) = record {
+  number = 0;
+  marks = n.marks;
+  slots = n.slots;
+  walk = n.walk;
+  places = n.places;
+  worlds = n.worlds;
+  positions = n.lengths.positions;
+  normals = n.lengths.normals;
+  tangents = n.lengths.tangents;
+}
+answer_of (Err r) = no_room (number_of r)
 
 -- four words and ten floats a pose slot, two words an entry of the walk, a word and sixteen floats a world slot; and as
 -- many floats as an output is to hold

@@ -1,12 +1,10 @@
 -- The numbers of a bake, test by test, and what tables, time and room are ready for once none of 1 to 6 is drawn. Assumes nothing.
 use mathlib.Core.Path.{◌≡◌, refl, sym, ap, ◌∙◌, subst}
 use mathlib.Core.Bool.{Bool, true, false}
-use Prim.Native.Nat.{ℕ, zero, suc, ◌+◌, ◌*◌, ◌/◌, ◌≤◌, ◌<◌}
+use Prim.Native.Nat.{ℕ, zero, suc, ◌≤◌}
 use native.Mathlib.Omega.{arith}
 use lib.Ieee.{Float, is_nan}
-use lib.ListN.{length}
 use Rattle.model.specs.Lists.{pick}
-use Rattle.model.specs.Scene.{node_count}
 use Rattle.model.specs.Refusals.{first_of, lowest, some_keys_out_of_line, Scratch, scratch_is_short, early_number}
 use Rattle.model.proofs.Numbers.{lowest-some}
 use Rattle.tables.specs.Decoded.{Lent, scene_of}

@@ -1,19 +1,19 @@
 -- The worlds of a placing that reads the pose from the slots where it was just written. Assumes nothing.
 use mathlib.Core.Path.{◌≡◌, refl, sym, ap, ◌∙◌}
-use mathlib.Core.List.{List, [], ◌∷◌, ◌++◌, Memᴰ}
+use mathlib.Core.List.{List, ◌++◌}
 use mathlib.Core.Option.{Option, none, some}
-use Prim.Native.Nat.{ℕ, ◌+◌, ◌*◌, ◌≤◌, ◌<◌}
+use Prim.Native.Nat.{ℕ, ◌*◌, ◌≤◌, ◌<◌}
 use native.Mathlib.Omega.{arith}
 use lib.Ieee.{Float}
-use lib.ListN.{length, get_or, drop, replicate}
-use Rattle.model.specs.Lists.{foldl, tabulate}
+use lib.ListN.{get_or, drop, replicate}
+use Rattle.model.specs.Lists.{tabulate}
 use Rattle.model.specs.Matrix.{Matrix}
 use Rattle.model.specs.Vector.{Vector}
 use Rattle.model.specs.Transform.{Transform, to_matrix}
-use Rattle.model.specs.Scene.{Track, node_count, node_at}
+use Rattle.model.specs.Scene.{Track, node_count}
 use Rattle.model.specs.Pose.{Pose, at_rest, poses, posed_over, local_transform}
-use Rattle.model.specs.Placing.{Entry, order, places, taken}
-use Rattle.model.specs.World.{poses_of, local_at, place_one, worlds_from, worlds}
+use Rattle.model.specs.Placing.{order, taken}
+use Rattle.model.specs.World.{poses_of, local_at, worlds_from, worlds}
 use Rattle.model.proofs.Placed.{placed-in-range}
 use Rattle.tables.specs.Records.{node_row, channel_row}
 use Rattle.tables.specs.Decoded.{Lent, base_of, scene_of}

@@ -2,7 +2,7 @@
 -- Definitions only.
 use Rattle.std.specs.Prelude.{◌≡◌, false, List, ◌++◌, ℕ, ◌*◌, ◌≤◌, Float, length, drop, replicate}
 use Rattle.std.specs.Float.Ieee.{is_nan}
-use Rattle.borrowed.specs.Slices.{SharedWords, SharedFloats, Words, Floats, Change}
+use Rattle.borrowed.specs.Slices.{Words, Floats, Change}
 use Rattle.model.specs.Limits.{channel_limit, node_limit}
 use Rattle.model.specs.Scene.{node_count}
 use Rattle.model.specs.Placing.{places, taken}
@@ -16,6 +16,7 @@ use Rattle.placing.specs.Walk.{listing_in, entries_of}
 use Rattle.pose_slots.specs.Slots.{room}
 use Rattle.pose.specs.Lines.{NoneDrawn, AllInLine}
 use Rattle.pose.specs.Encoded.{encoded_words, encoded_floats}
+use Rattle.worlds.specs.declared.Room.{Room}
 use Rattle.worlds.specs.Slots.{slots_of}
 use Rattle.worlds.specs.Placed.{scratch_of}
 
@@ -49,6 +50,17 @@ scratch_room marks slots walk places worlds = record {
   };
 }
 
+-- the same where walk room and world slots are lent as one
+abbrev pub slices_in : List ℕ → List Float → Room → Slices
+slices_in marks slots room =
+    record { marks = marks; slots = slots; walk = room.walk.now; places = room.places.now; worlds = room.worlds.now }
+
+abbrev pub scratch_lent : Words → Floats → Room → Room → SlicesChange
+scratch_lent marks slots old new = record {
+  from = slices_in marks.entry.now slots.entry.now old;
+  to = slices_in marks.exit.now slots.exit.now new;
+}
+
 abbrev pub room_of : Slices → refusals.Scratch
 room_of r = scratch_of r.walk r.marks r.slots r.places r.worlds
 
@@ -66,11 +78,11 @@ scratch_left l time lent =
     }
 
 -- the entries taken are told; the weights of nodes and meshes do not matter
-abbrev pub PosedAndPlaced : SharedWords → SharedFloats → Header → Float → SlicesChange → ℕ → Type 0
-PosedAndPlaced words floats h time c told =
+abbrev pub PosedAndPlaced : Lent → Float → SlicesChange → ℕ → Type 0
+PosedAndPlaced l time c told =
     (own mesh : List Float)
-    → (told ≡ taken (scene_of (lent_as words.entry.now floats.entry.now own mesh h)))
-    × (c.to ≡ scratch_left (lent_as words.entry.now floats.entry.now own mesh h) time c.from)
+    → (told ≡ taken (scene_of (lent_as l.words l.floats own mesh l.header)))
+    × (c.to ≡ scratch_left (lent_as l.words l.floats own mesh l.header) time c.from)
 
 -- what the stages ask of tables, time and room
 pub record Ready (words : List ℕ) (floats : List Float) (h : Header) (time : Float) (r : Slices) : Type 0 where

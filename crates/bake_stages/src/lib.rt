@@ -5,5 +5,5 @@ mod numbers;
 mod palettes;
 mod posing;
 
-pub use numbers::{check_first, check_late, wide};
+pub use numbers::{check_first, check_late};
 pub use posing::pose_and_place;

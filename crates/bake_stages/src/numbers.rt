@@ -1,111 +1,53 @@
-ghost use Rattle.std.specs.Prelude.{◌≡◌, ◌&&◌, List, Float, ◌<◌, ltb, get_or};
-ghost use Rattle.tables.specs.Tags.{is_marked};
+ghost use Rattle.std.specs.Prelude.{◌≡◌, List, Float};
+ghost use Rattle.tables.specs.Decoded.{lent_of};
 ghost use Rattle.refusals.specs.Drawn.{number_drawn};
-ghost use Rattle.checks.specs.Drawn.{lent_as, scene_lent};
+ghost use Rattle.checks.specs.Drawn.{lent_as};
+ghost use Rattle.worlds.specs.Rooms.{scratch_in};
 ghost use Rattle.bake_stages.specs.Numbers.{early_for, first_for, late_for};
 
 use crate::palettes::can_have_palette;
 use refusals::Refusal;
-use tables::Header;
+use tables::Lent;
+use worlds::{Room, Space};
 
-// What a bake draws as far as 6, with room for so many entries, poses and worlds.
-fn check_early(
-    words: &[u32],
-    floats: &[f32],
-    node_weights: &[f32],
-    mesh_weights: &[f32],
-    h: Header,
-    time: f32,
-    walk: usize,
-    poses: usize,
-    worlds: usize,
-) -> Result<(), Refusal>
-    ensures { number_drawn result ≡ early_for (scene_lent words floats node_weights mesh_weights h) time
-        (record { walk_room = walk; pose_slots = poses; world_slots = worlds }) }
+// What a bake draws as far as 6, with so much room.
+fn check_early(lent: Lent, time: f32, space: Space) -> Result<(), Refusal>
+    ensures { number_drawn result ≡ early_for (lent_of lent.entry) time (scratch_in space) }
 {
-    checks::check_tables(words, floats, node_weights, mesh_weights, h)?;
+    checks::check_tables(lent)?;
     if float::is_nan(time) {
         return Err(Refusal::NoTime);
     }
-    if pose::keys_out_of_line(words, floats, h) {
+    if pose::keys_out_of_line(lent) {
         return Err(Refusal::KeysOutOfLine);
     }
-    if worlds::is_short(words, h.graph, walk, poses, worlds) {
+    if worlds::is_short(lent.words, lent.header.graph, space) {
         return Err(Refusal::ShortScratch);
     }
     Ok(())
 }
 
-// A word as an index.
-pub fn wide(x: u32) -> usize
-    ensures { (result ≡ x) × (result < 4294967296) }
-{
-    x as usize
-}
-
 // What a bake draws as far as 7.
-pub fn check_first(
-    words: &[u32],
-    floats: &[f32],
-    node_weights: &[f32],
-    mesh_weights: &[f32],
-    h: Header,
-    node: u32,
-    time: f32,
-    walk: usize,
-    poses: usize,
-    worlds: usize,
-) -> Result<(), Refusal>
-    ensures { number_drawn result ≡ first_for (scene_lent words floats node_weights mesh_weights h) node time
-        (record { walk_room = walk; pose_slots = poses; world_slots = worlds }) }
+pub fn check_first(lent: Lent, node: u32, time: f32, space: Space) -> Result<(), Refusal>
+    ensures { number_drawn result ≡ first_for (lent_of lent.entry) node time (scratch_in space) }
 {
-    check_early(
-        words,
-        floats,
-        node_weights,
-        mesh_weights,
-        h,
-        time,
-        walk,
-        poses,
-        worlds,
-    )?;
-    if skin::has_mesh(words, h, node) {
+    check_early(lent, time, space)?;
+    if skin::has_mesh(lent.words, lent.header, node) {
         return Ok(());
     }
     Err(Refusal::NoSuchNode)
 }
 
-// Whether a node of n has a world.
-fn is_placed(places: &[u32], n: usize, node: u32) -> bool
-    ensures { result ≡ (ltb node n && is_marked (get_or places.now node 0)) }
-{
-    let i = wide(node);
-    if i < n {
-        if i < places.len() {
-            return tables::is_marked(places[i]);
-        }
-    }
-    false
-}
-
 // What a bake draws past 7: 8, 9, 10, or nothing.
-pub fn check_late(
-    words: &[u32],
-    floats: &[f32],
-    h: Header,
-    node: u32,
-    places: &[u32],
-    fit: bool,
-) -> Result<(), Refusal>
+pub fn check_late(lent: Lent, node: u32, room: &Room<'_>, fit: bool) -> Result<(), Refusal>
     ensures { (own mesh slots : List Float) → number_drawn result
-        ≡ late_for (lent_as words.now floats.now own mesh h) node
-        places.now slots fit }
+        ≡ late_for (lent_as lent.entry.words.now lent.entry.floats.now own mesh lent.entry.header) node
+        room.now.places.now slots fit }
 {
-    let nodes = h.graph.nodes;
-    if is_placed(places, nodes.count, node) {
-        let row = tables::node_row(words, nodes, wide(node));
-        if can_have_palette(words, floats, h, row.skin, places) {
+    let nodes = lent.header.graph.nodes;
+    if skin::is_placed(node, nodes.count, room.places) {
+        let row = tables::node_row(lent.words, nodes, node as usize);
+        if can_have_palette(lent, row.skin, room.places) {
             if fit {
                 return Ok(());
             }

@@ -1,32 +1,22 @@
-ghost use Rattle.bake_stages.specs.Scratch.{scratch_room, PosedAndPlaced, Ready};
+ghost use Rattle.tables.specs.Decoded.{lent_of};
+ghost use Rattle.worlds.specs.Rooms.{SameRoom};
+ghost use Rattle.bake_stages.specs.Scratch.{slices_in, scratch_lent, PosedAndPlaced, Ready};
 
-use tables::Header;
+use tables::Lent;
+use worlds::Room;
 
 // Poses and places all nodes, for tables, a time and room that have been checked; answers how many entries were taken.
 pub fn pose_and_place(
-    words: &[u32],
-    floats: &[f32],
-    h: Header,
+    lent: Lent,
     time: f32,
     marks: &mut [u32],
     slots: &mut [f32],
-    walk: &mut [u32],
-    places: &mut [u32],
-    worlds: &mut [f32],
+    room: &mut Room<'_>,
 ) -> usize
-    requires { Ready words.now floats.now h time
-        (record { marks = marks.old; slots = slots.old; walk = walk.old; places = places.old; worlds = worlds.old }) }
-    ensures { PosedAndPlaced words floats h time (scratch_room marks slots walk places worlds) result }
+    requires { Ready lent.words.now lent.floats.now lent.header time (slices_in marks.old slots.old room.old) }
+    ensures same_room { SameRoom room.old room.new }
+    ensures placed { PosedAndPlaced (lent_of lent.entry) time (scratch_lent marks slots room.old room.new) result }
 {
-    let graph = h.graph;
-    pose::pose_all(
-        words,
-        floats,
-        h.channels,
-        graph.nodes.count,
-        time,
-        marks,
-        slots,
-    );
-    worlds::place_all(words, floats, graph, marks, slots, walk, places, worlds)
+    pose::pose_all(lent, time, marks, slots);
+    worlds::place_all(lent, marks, slots, room)
 }

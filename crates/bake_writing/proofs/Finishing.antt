@@ -1,20 +1,18 @@
 -- What the scratch room holds after the placing is the model's worlds and palette, and the result that is put out from it. Assumes nothing.
 use mathlib.Core.Path.{◌≡◌, refl, sym, ap, ◌∙◌, subst}
 use mathlib.Core.Bool.{Bool, true, false, ◌&&◌}
-use mathlib.Core.List.{List, [], map}
+use mathlib.Core.List.{List, map}
 use mathlib.Core.Option.{Option, none, some, none-ne-some}
-use Prim.Native.Nat.{ℕ, ◌*◌, ◌≤◌, ◌<◌}
+use Prim.Native.Nat.{ℕ, ◌*◌, ◌<◌}
 use native.Mathlib.Omega.{arith}
 use lib.Dec.{ltb}
 use lib.Ieee.{Float}
-use lib.ListN.{length, get_or, take}
+use lib.ListN.{get_or, take}
 use Rattle.model.specs.Lists.{pick, is_some, and_then}
 use Rattle.model.specs.Matrix.{Matrix}
-use Rattle.model.specs.Scene.{Scene, Node, Primitive, node_count, node_at, skeleton_of, skeleton_at}
-use Rattle.model.specs.Vertices.{Shape}
+use Rattle.model.specs.Scene.{Node, node_count, node_at, skeleton_of, skeleton_at}
 use Rattle.model.specs.World.{poses_of, pose_at, worlds, world_at}
 use Rattle.model.specs.Skin.{blend_weights}
-use Rattle.model.specs.Refusals.{early_number}
 use Rattle.model.specs.Bake.{Output, written, baked_primitive, output_of, palette_with}
 use Rattle.tables.specs.declared.Reference.{Reference}
 use Rattle.tables.specs.declared.NodeRow.{NodeRow}
@@ -24,7 +22,6 @@ use Rattle.tables.specs.Tags.{is_marked, id_of}
 use Rattle.tables.specs.Decoded.{Lent, mesh_of, scene_of}
 use Rattle.tables.proofs.Decoding.{node-count, node-at}
 use Rattle.scene.specs.Slots.{matrix_in}
-use Rattle.checks.specs.Drawn.{tables_number, lent_as}
 use Rattle.pose.specs.Encoded.{encoded_words}
 use Rattle.worlds.specs.Slots.{world_in}
 use Rattle.worlds.proofs.Reading.{worlds-read}
@@ -107,6 +104,6 @@ module _ (l : Lent) (i : ℕ) (time : Float) (marks codes : List ℕ) (slots : L
       → Blending l time marks i mesh blend r → m ≡ matrix_in slots (i * 16)
       → ((o : Option (List Matrix)) → palette_from l row.skin codes slots ≡ some o → PutOut (output_of (map (baked_primitive m o (take r blend)) (primitives_in l mesh.primitives))) lp p ln n lt t)
       → Delivered l i time marks codes slots lp p ln n lt t
-  delivered mesh row x y g e put =
+  delivered _ _ x y g e put =
       from-records (subst (λ (k : MeshRow). Blending l time marks i k blend r) x g) e
       (λ o f. put-as _ _ lp p ln n lt t (λ j. output_of (map (baked_primitive m o (take r blend)) (primitives_in l (x j).primitives))) (put o ((λ j. palette_from l (y j).skin codes slots) ∙ f)))

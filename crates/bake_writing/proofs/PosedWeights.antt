@@ -3,13 +3,13 @@ use mathlib.Core.Path.{◌≡◌, refl, sym, ap, ◌∙◌, subst}
 use mathlib.Core.Bool.{Bool, true, false, not, ◌&&◌, false≢true}
 use mathlib.Core.List.{List, [], ◌∷◌, map}
 use mathlib.Core.Option.{Option, none, some}
-use Prim.Native.Nat.{ℕ, zero, suc, ◌+◌, ◌*◌, ◌/◌, ◌≤◌, ◌<◌}
+use Prim.Native.Nat.{ℕ, zero, suc, ◌+◌, ◌*◌, ◌≤◌, ◌<◌}
 use native.Mathlib.Omega.{arith}
 use borrow.Author.Tests.{lt-ltb, ltb-true, ltb-false, leb-true, eqb-true}
 use lib.Dec.{ltb, leb, eqb}
 use Rattle.std.proofs.Common.{Result, Ok, Err}
 use lib.Ieee.{Float, is_nan}
-use lib.ListN.{length, get_or, take, drop, replicate, length-take, get_or-eq_default}
+use lib.ListN.{length, get_or, take, drop, replicate, length-take}
 use lib.Seq.{take_all, take_at}
 use Rattle.float.specs.F32.{zero32}
 use Rattle.model.specs.Lists.{pick, tabulate, is_some, and_then}
@@ -190,9 +190,6 @@ pub unposed : (node_weights mesh_weights : List Float) (node : NodeRow) (mesh : 
 unposed node_weights mesh_weights node mesh ws lent left n e w size kept =
     let c = copied ws lent left n w size in
     record { size = kept; few = c.0; weights = λ words floats h. c.1 ∙ ap (take 64) (e.weights words floats h) }
-
-pub past-slots : (marks : List ℕ) (i : ℕ) → length marks / 4 ≤ i → 0 ≡ get_or marks (i * 4 + 3) 0
-past-slots marks i h = sym (get_or-eq_default marks 0 (omega (arith, h)))
 
 module _ (l : Lent) (time : Float) (marks : List ℕ) (i : ℕ) (mesh : MeshRow) (left : List Float) (r : ℕ) where
   abbrev s : Scene

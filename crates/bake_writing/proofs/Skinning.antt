@@ -26,16 +26,8 @@ use Rattle.shapes.specs.Rest.{PutOut}
 use Rattle.skin.specs.Palette.{laid_out}
 use Rattle.skin.proofs.Rows.{laid}
 use Rattle.bake_stages.specs.Skinned.{world_from, skin_palette_from, palette_from}
-use Rattle.bake_stages.proofs.NamedPalette.{without-skin, with-skin}
+use Rattle.bake_stages.proofs.NamedPalette.{with-skin}
 use Rattle.bake_writing.specs.Delivered.{SkeletonsWithin}
-
--- ---- how many matrices
-pub counted : (p : Option (List Matrix)) (o : Option ℕ) → o ≡ map_some length p → or_else o 0 ≡ length (or_else p [])
-counted p o e = ap (λ (x : Option ℕ). or_else x 0) e ∙ go p
-  where
-    go : (p : Option (List Matrix)) → or_else (map_some length p) 0 ≡ length (or_else p [])
-    go none = refl
-    go (some ms) = refl
 
 -- ---- a mesh put out with that palette
 module _ (put : Option (List Matrix) → Output) (p₁ p₂ n₁ n₂ t₁ t₂ : List Float) where
@@ -50,9 +42,6 @@ module _ (put : Option (List Matrix) → Output) (p₁ p₂ n₁ n₂ t₁ t₂ 
         go : (o : Option (List Matrix)) → skin_palette_from l r.id codes slots ≡ o → map_some some o ≡ some p → PutOut (put p) p₁ p₂ n₁ n₂ t₁ t₂
         go none q f = absurd (false≢true (ap is_some f))
         go (some ms) q f = put-alike (some ms) p (ap (λ (x : Option (Option (List Matrix))). or_else x none) f) (h ms q)
-
-    pub put-without : is_marked r.mark ≡ false → PutOut (put none) p₁ p₂ n₁ n₂ t₁ t₂ → PutOut (put p) p₁ p₂ n₁ n₂ t₁ t₂
-    put-without m h = put-alike none p (ap (λ (x : Option (Option (List Matrix))). or_else x none) (sym (without-skin l r codes slots m) ∙ e)) h
 
 -- ---- each product has sixteen numbers, and there are no more of them than joints
 module _ (world : ℕ → Option Matrix) where

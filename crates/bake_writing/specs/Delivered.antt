@@ -2,14 +2,14 @@
 -- their limit. Definitions only.
 use Rattle.std.specs.Prelude.{◌≡◌, true, List, [], map, ℕ, ◌<◌, Float, length}
 use Rattle.std.proofs.Math.Option.{Option, some}
-use Rattle.borrowed.specs.Slices.{SharedWords, SharedFloats, Floats}
+use Rattle.borrowed.specs.declared.Vertices.{Vertices}
 use Rattle.model.specs.Lists.{is_some}
 use Rattle.model.specs.Matrix.{Matrix}
 use Rattle.model.specs.Scene.{node_at, skeleton_at}
 use Rattle.model.specs.World.{poses_of, pose_at, worlds, world_at}
 use Rattle.model.specs.Skin.{blend_weights}
 use Rattle.model.specs.Refusals.{early_number}
-use Rattle.model.specs.Bake.{baked_primitive, output_of, palette_with}
+use Rattle.model.specs.Bake.{Output, baked_primitive, output_of, palette_with}
 use Rattle.tracks.specs.declared.Part.{Part}
 use Rattle.tables.specs.declared.Header.{Header}
 use Rattle.tables.specs.declared.MeshRow.{MeshRow}
@@ -18,7 +18,8 @@ use Rattle.tables.specs.Records.{node_row, mesh_row, skeleton_row}
 use Rattle.tables.specs.Decoded.{Lent, mesh_of, scene_of}
 use Rattle.row_checks.specs.Bounds.{skeleton_within}
 use Rattle.checks.specs.Drawn.{lent_as, tables_number}
-use Rattle.shapes.specs.Rest.{primitives_in, lengths_below, AtMost, Drawable, PutOut, PutsOut}
+use Rattle.worlds.specs.declared.Room.{Room}
+use Rattle.shapes.specs.Rest.{primitives_in, lengths_below, AtMost, Drawable, PutOut}
 use Rattle.bake_stages.specs.Scratch.{Slices, room_of, scratch_left}
 use Rattle.bake_stages.specs.Skinned.{skin_palette_from, palette_from}
 
@@ -32,41 +33,41 @@ part_of words h i = (mesh_record words h i).primitives
 abbrev pub SkeletonsWithin : List ℕ → Part → Type 0
 SkeletonsWithin words t = (k : ℕ) → k < t.count → skeleton_within (skeleton_row words t k) ≡ true
 
+-- a result stands at the start of the outputs
+abbrev pub Holds : Output → Vertices → Vertices → Type 0
+Holds o old new =
+    PutOut o old.positions.now new.positions.now old.normals.now new.normals.now old.tangents.now new.tangents.now
+
 -- the primitives of a mesh, blended with weights, and placed by a world and a palette, stand at the start of the
 -- outputs
-abbrev pub MeshPutOut : SharedWords → SharedFloats → Header → Part → Matrix → Option (List Matrix)
-    → SharedFloats → Floats → Floats → Floats → Type 0
-MeshPutOut words floats h primitives world palette weights positions normals tangents =
-    PutsOut
-    (output_of (map (baked_primitive world palette weights.entry.now)
-    (primitives_in (lent_as words.entry.now floats.entry.now [] [] h) primitives)))
-    positions normals tangents
+abbrev pub MeshPutOut : Lent → Part → Matrix → Option (List Matrix) → List Float → Vertices → Vertices → Type 0
+MeshPutOut l primitives world palette weights old new =
+    Holds
+    (output_of (map (baked_primitive world palette weights)
+    (primitives_in (lent_as l.words l.floats [] [] l.header) primitives)))
+    old new
 
 -- with the palette of a skin, where one can be made from the world slots
-abbrev pub SkinnedPutOut : SharedWords → SharedFloats → Header → Part → Matrix → ℕ → SharedWords → SharedFloats
-    → SharedFloats → Floats → Floats → Floats → Type 0
-SkinnedPutOut words floats h primitives world skin places worlds' weights positions normals tangents =
+abbrev pub SkinnedPutOut : Lent → Part → Matrix → ℕ → Room → List Float → Vertices → Vertices → Type 0
+SkinnedPutOut l primitives world skin room weights old new =
     (own mesh : List Float) (p : List Matrix)
-    → skin_palette_from (lent_as words.entry.now floats.entry.now own mesh h) skin places.entry.now
-    worlds'.entry.now ≡ some p
-    → MeshPutOut words floats h primitives world (some p) weights positions normals tangents
+    → skin_palette_from (lent_as l.words l.floats own mesh l.header) skin room.places.now room.worlds.now ≡ some p
+    → MeshPutOut l primitives world (some p) weights old new
 
 -- with that of what a node names, if that is a skin
-abbrev pub NamedPutOut : SharedWords → SharedFloats → Header → Part → Matrix → Reference → SharedWords → SharedFloats
-    → SharedFloats → Floats → Floats → Floats → Type 0
-NamedPutOut words floats h primitives world skin places worlds' weights positions normals tangents =
+abbrev pub NamedPutOut : Lent → Part → Matrix → Reference → Room → List Float → Vertices → Vertices → Type 0
+NamedPutOut l primitives world skin room weights old new =
     (own mesh : List Float) (p : Option (List Matrix))
-    → palette_from (lent_as words.entry.now floats.entry.now own mesh h) skin places.entry.now
-    worlds'.entry.now ≡ some p
-    → MeshPutOut words floats h primitives world p weights positions normals tangents
+    → palette_from (lent_as l.words l.floats own mesh l.header) skin room.places.now room.worlds.now ≡ some p
+    → MeshPutOut l primitives world p weights old new
 
 -- the primitives can be put out: they lie in their tables, the outputs are long enough, and the skeletons are within
 -- their limit
-abbrev pub Deliverable : List ℕ → List Float → Header → Part → List Float → List Float → List Float → Type 0
-Deliverable words floats h primitives positions normals tangents =
+abbrev pub Deliverable : List ℕ → List Float → Header → Part → Vertices → Type 0
+Deliverable words floats h primitives out =
     Drawable words floats h.meshes.primitives primitives
     × AtMost (lengths_below words h.meshes.primitives primitives primitives.count)
-    (length positions) (length normals) (length tangents)
+    (length out.positions.now) (length out.normals.now) (length out.tangents.now)
     × SkeletonsWithin words h.skins.skeletons
 
 -- the weights that node i's mesh is blended with at a time
@@ -85,17 +86,17 @@ pub record Delivered (l : Lent) (i : ℕ) (time : Float) (marks places : List �
       → worlds' ≡ (scratch_left l time lent).worlds
       → (w : Matrix) (o : Option (List Matrix))
       → world_at (worlds (poses_of time (scene_of l)) (scene_of l)) i ≡ some w
-      → palette_with (world_at (worlds (poses_of time (scene_of l)) (scene_of l))) (is_some (node_at (scene_of l) i).skin)
-      (skeleton_at (scene_of l) i) ≡ some o
+      → palette_with (world_at (worlds (poses_of time (scene_of l)) (scene_of l)))
+      (is_some (node_at (scene_of l) i).skin) (skeleton_at (scene_of l) i) ≡ some o
       → PutOut
       (output_of (map (baked_primitive w o (weights_at l i time))
       (mesh_of l (mesh_record l.words l.header i)).primitives))
       lp p ln n lt t
 
--- of the slices that a call borrows
-abbrev pub Delivers : Lent → ℕ → Float → SharedWords → SharedWords → SharedFloats → Floats → Floats → Floats → Type 0
-Delivers l i time marks places worlds' positions normals tangents =
-    Delivered l i time marks.entry.now places.entry.now worlds'.entry.now
-    positions.entry.now positions.exit.now
-    normals.entry.now normals.exit.now
-    tangents.entry.now tangents.exit.now
+-- of what a call is lent
+abbrev pub Delivers : Lent → ℕ → Float → List ℕ → Room → Vertices → Vertices → Type 0
+Delivers l i time marks room old new =
+    Delivered l i time marks room.places.now room.worlds.now
+    old.positions.now new.positions.now
+    old.normals.now new.normals.now
+    old.tangents.now new.tangents.now

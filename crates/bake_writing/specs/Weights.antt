@@ -30,8 +30,8 @@ pub record Weighed (floats : List Float) (row : ChannelRow) (time : Float) (left
       → sample (channel_in floats row) time ≡ some (take r left)
 
 -- they are the effective weights of the node and the mesh that two rows say, cut off at the limit
-pub record Unposed (node_weights mesh_weights : List Float) (node : NodeRow) (mesh : MeshRow) (left : List Float) (r : ℕ)
-    : Type 0 where
+pub record Unposed (node_weights mesh_weights : List Float) (node : NodeRow) (mesh : MeshRow) (left : List Float)
+    (r : ℕ) : Type 0 where
   pub size : length left ≡ weight_limit
   pub few : r ≤ weight_limit
   pub weights : (words : List ℕ) (floats : List Float) (h : Header)

@@ -1,75 +1,54 @@
 ghost use Rattle.std.specs.Prelude.{◌≡◌};
 ghost use Rattle.tables.specs.Records.{node_row, mesh_row};
-ghost use Rattle.checks.specs.Drawn.{scene_lent};
+ghost use Rattle.tables.specs.Decoded.{lent_of};
+ghost use Rattle.borrowed.specs.Attributes.{SameSlices};
 ghost use Rattle.bake_writing.specs.Delivered.{part_of, Deliverable, Delivers};
 
 use crate::palettes::put_out;
 use crate::weighing::weights_into;
-use bake_stages::wide;
+use borrowed::Vertices;
 use refusals::WEIGHT_LIMIT;
-use tables::{Header, MeshRow};
+use tables::{Lent, MeshRow};
+use worlds::Room;
 
 // The record of a node's mesh.
-pub fn mesh_of(words: &[u32], h: Header, node: u32) -> MeshRow
-    ensures { result ≡ mesh_row words.now h.meshes.meshes
-        (node_row words.now h.graph.nodes node).mesh.id }
+pub fn mesh_of(lent: Lent, node: u32) -> MeshRow
+    ensures { result ≡ mesh_row lent.entry.words.now lent.entry.header.meshes.meshes
+        (node_row lent.entry.words.now lent.entry.header.graph.nodes node).mesh.id }
 {
-    let nodes = h.graph.nodes;
-    let row = tables::node_row(words, nodes, wide(node));
-    tables::mesh_row(words, h.meshes.meshes, wide(row.mesh.id))
+    let h = lent.header;
+    let row = tables::node_row(lent.words, h.graph.nodes, node as usize);
+    tables::mesh_row(lent.words, h.meshes.meshes, row.mesh.id as usize)
 }
 
 // Puts out the mesh of a node, in the pose and the placing that the scratch room holds; the tables have been checked,
 // and the outputs are long enough.
-pub fn deliver<'a>(
-    words: &[u32],
-    floats: &[f32],
-    node_weights: &'a [f32],
-    mesh_weights: &'a [f32],
-    h: Header,
+pub fn deliver(
+    lent: Lent,
     node: u32,
     time: f32,
     marks: &[u32],
-    places: &[u32],
-    worlds: &[f32],
-    positions: &mut [f32],
-    normals: &mut [f32],
-    tangents: &mut [f32],
+    room: &Room<'_>,
+    out: &mut Vertices<'_>,
 )
-    requires { Deliverable words.now floats.now h (part_of words.now h node) positions.old normals.old
-        tangents.old }
-    ensures { Delivers (scene_lent words floats node_weights mesh_weights h) node time marks places worlds
-        positions normals tangents }
+    requires { Deliverable lent.words.now lent.floats.now lent.header (part_of lent.words.now lent.header node)
+        out.old }
+    ensures same_outputs { SameSlices out.old out.new }
+    ensures delivers { Delivers (lent_of lent.entry) node time marks.now room.now out.old out.new }
 {
     let mut blend = [0.0f32; WEIGHT_LIMIT];
-    let mesh = mesh_of(words, h, node);
-    let n = weights_into(
-        words,
-        floats,
-        node_weights,
-        mesh_weights,
-        h,
-        node,
-        mesh,
-        time,
-        marks,
-        &mut blend,
-    );
-    let i = wide(node);
-    let row = tables::node_row(words, h.graph.nodes, i);
-    let world = scene::load(worlds, i * 16);
+    let mesh = mesh_of(lent, node);
+    let n = weights_into(lent, node, mesh, time, marks, &mut blend);
+    let i = node as usize;
+    let row = tables::node_row(lent.words, lent.header.graph.nodes, i);
+    let world = scene::load(room.worlds, i * 16);
     put_out(
-        words,
-        floats,
-        h,
+        lent,
         mesh.primitives,
         &blend[..n],
         world,
         row.skin,
-        places,
-        worlds,
-        positions,
-        normals,
-        tangents,
+        room,
+        out,
     );
 }

@@ -1,12 +1,11 @@
 ghost use Rattle.std.specs.Prelude.{◌≡◌, ◌+◌, ◌*◌, get_or};
 ghost use Rattle.tables.specs.Records.{channel_row};
-ghost use Rattle.checks.specs.Drawn.{scene_lent};
+ghost use Rattle.tables.specs.Decoded.{lent_of};
 ghost use Rattle.bake_writing.specs.Weights.{Weighed, Unposed, Blending};
 
 use animation::SampledValue;
-use bake_stages::wide;
 use refusals::WEIGHT_LIMIT;
-use tables::{Header, MeshRow, NodeRow};
+use tables::{Lent, MeshRow, NodeRow};
 use tracks::Part;
 
 // The weights of channel k at a time, at the start of `out`; answers how many.
@@ -60,26 +59,29 @@ fn weights_word(marks: &[u32], i: usize) -> u32
 
 // The weights that a node's mesh is blended with, at the start of `out`: the posed ones, if there are any, otherwise
 // the node's or the mesh's, as many as there is room for. Answers how many.
-pub(crate) fn weights_into<'a>(
-    words: &[u32],
-    floats: &[f32],
-    node_weights: &'a [f32],
-    mesh_weights: &'a [f32],
-    h: Header,
+pub(crate) fn weights_into(
+    lent: Lent,
     node: u32,
     mesh: MeshRow,
     time: f32,
     marks: &[u32],
     out: &mut [f32; WEIGHT_LIMIT],
 ) -> usize
-    ensures { Blending (scene_lent words floats node_weights mesh_weights h) time
-        marks.now node mesh out.new result }
+    ensures { Blending (lent_of lent.entry) time marks.now node mesh out.new result }
 {
-    let i = wide(node);
+    let h = lent.header;
+    let i = node as usize;
     let word = weights_word(marks, i);
     if word != 0 {
-        return posed_weights(words, floats, h.channels, wide(word - 1), time, out);
+        return posed_weights(
+            lent.words,
+            lent.floats,
+            h.channels,
+            (word - 1) as usize,
+            time,
+            out,
+        );
     }
-    let row = tables::node_row(words, h.graph.nodes, i);
-    unposed_weights(node_weights, mesh_weights, row, mesh, out)
+    let row = tables::node_row(lent.words, h.graph.nodes, i);
+    unposed_weights(lent.node_weights, lent.mesh_weights, row, mesh, out)
 }

@@ -3,7 +3,7 @@
 #![tactic(auto)]
 
 use std::io;
-use tables::{Graph, Header, Meshes, Skins};
+use tables::{Graph, Header, Lent, Meshes, Skins};
 use tracks::Part;
 
 // The first listing: root 0; 0 lists 1, 2; 1 lists 2. Skin 0 has the joints 1, 2, and skin 1 the joint 1: the words of
@@ -48,7 +48,14 @@ fn header() -> Header {
 }
 
 fn print_root(out: &impl Print, what: &str, skin: u32) -> io::Result<()> {
-    match skin_roots::skin_root(&FIRST_LISTING, &BASE, &[], &[], header(), skin) {
+    let lent = Lent {
+        words: &FIRST_LISTING,
+        floats: &BASE,
+        node_weights: &[],
+        mesh_weights: &[],
+        header: header(),
+    };
+    match skin_roots::skin_root(lent, skin) {
         Ok(root) => println!(out; "{what}: root {root}"),
         Err(refusal) => println!(out; "{what}: refused with {}", u32::from(refusal)),
     }

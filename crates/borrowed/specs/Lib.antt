@@ -1,3 +1,4 @@
 pub mod Slices
 pub mod InPlace
 pub mod Written
+pub mod Attributes

@@ -7,7 +7,7 @@ use native.Mathlib.Omega.{arith}
 use borrow.Author.Tests.{eqb-true, eqb-false, le-leb}
 use lib.Dec.{eqb}
 use lib.ListN.{length, get_or, drop, length-append}
-use lib.Seq.{sets, length-sets}
+use lib.Seq.{sets}
 use Rattle.model.specs.Lists.{pick, every, foldl}
 use Rattle.grammar.specs.Digits.{Sort, numbers, floats, base_of, digits_of, items_text}
 use Rattle.grammar.specs.Shape.{is_float, sorted}
@@ -23,7 +23,7 @@ use Rattle.brackets.specs.Read.{Passed, ItemRead, ItemsRead, one_more, items_at}
 use Rattle.brackets.specs.Runs.{front, RunStands, RunRead, behind_run, told_run, RestRead}
 use Rattle.brackets.proofs.MeetingLaws.{meets-append, departed, stands-met}
 use Rattle.brackets.proofs.ReadingLaws.{further, in-text, byte-here, item-stands, item-there}
-use Rattle.brackets.proofs.ReadingLaws.{items-on, items-off, item_on, item-forth, sets-out}
+use Rattle.brackets.proofs.ReadingLaws.{items-on, items-off, item_on, item-forth}
 use Rattle.brackets.proofs.ListLaws.{none_told, tells_all, told-all, sorted_none, whole-read}
 
 -- ---- items put together
@@ -180,10 +180,6 @@ stored_more {f = f} {s} {text} {at} {n} {count = count} {v = v} {lent = lent} g 
           q xs ∙ g.filled (f v ∷ xs)
           ∙ ap (sets lent n) (behind ∙ ap (λ (l : List ℕ). map f l ++ xs) (sym made));
     }
-
-pub stored-length : {A : Type 0} {f : ℕ → A} {s : Sort} {text : List ℕ} {at n : ℕ} {lent cells : List A} {r : Run}
-    → RunRead f s text at n lent cells r → length cells ≡ length lent
-stored-length g = simp length-sets at (ap length (g.filled []))
 
 -- ---- what is told of a run
 pub told_none : (s : Sort) (text : List ℕ) (at : ℕ) {count : ℕ} → count ≤ 0

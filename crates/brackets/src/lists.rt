@@ -81,6 +81,7 @@ fn other_items<C: Cell>(
     let mut m = met;
     let mut k = n;
     let mut t = told;
+    // A `while`, since it goes on from what was read, by its length.
     while reading::byte_at(text, i) == 32 {
         let x = reading::take::<C>(text, i, m);
         k = cells::store(cells, k, x.value);

@@ -10,15 +10,11 @@ pub fn meet(text: &[u8], m: Met, b: u8) -> Met
     ensures { result ≡ meet text.now b m }
 {
     let at = m.at;
-    if m.ok {
-        if at < text.len() {
-            if text[at] == b {
-                return Met {
-                    at: at + 1,
-                    ok: true,
-                };
-            }
-        }
+    if m.ok && at < text.len() && text[at] == b {
+        return Met {
+            at: at + 1,
+            ok: true,
+        };
     }
     Met { at, ok: false }
 }

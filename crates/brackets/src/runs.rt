@@ -28,6 +28,7 @@ fn store_floats(text: &[u8], at: usize, cells: &mut [f32], n: usize) -> Run
     let mut next = at;
     let mut cell = n;
     let mut count = 0;
+    // A `while`, since it goes on from what was read, by its length.
     while reading::byte_at(text, next) == 32 {
         let Some(d) = plain_at(text, next + 1) else {
             break;

@@ -2,7 +2,7 @@
 -- puts out stays the same, byte for byte. Assumes nothing.
 use mathlib.Core.Path.{◌≡◌, refl, sym, ap, ◌∙◌, subst}
 use mathlib.Core.Bool.{Bool, true, false, ◌||◌}
-use mathlib.Core.List.{List, ◌++◌}
+use mathlib.Core.List.{List}
 use Prim.Native.Nat.{ℕ, zero, suc, ◌*◌, ◌/◌, ◌≤◌, min}
 use native.Mathlib.Omega.{arith}
 use lib.Dec.{ltb}
@@ -21,7 +21,7 @@ use Rattle.model.proofs.Demand.{measured}
 use Rattle.wire.specs.Bytes.{bytes_of}
 use Rattle.wire.proofs.Writing.{bytes-length}
 use Rattle.tables.specs.declared.Header.{Header}
-use Rattle.tables.specs.Decoded.{Lent, scene_of}
+use Rattle.tables.specs.Decoded.{scene_of}
 use Rattle.checks.specs.Drawn.{tables_number}
 use Rattle.bake_stages.specs.Scratch.{room_of}
 use Rattle.bake.specs.declared.Answer.{Answer}
@@ -29,9 +29,8 @@ use Rattle.bake.specs.Baked.{Room, answer_of}
 use Rattle.bake.specs.Isolation.{NotRefusedEarly}
 use Rattle.bake.proofs.TablesRange.{tables-at-most-2}
 use Rattle.lent_bytes.specs.Bytes.{SceneBytes, Decoding, count_of, lent_by, drawn_by}
-use Rattle.byte_checks.specs.Numbers.{early_in}
 use Rattle.byte_baking.specs.Output.{ByteOutput, with_floats}
-use Rattle.byte_baking.specs.Baked.{request_in, outcome_in, BakedIn}
+use Rattle.byte_baking.specs.Baked.{request_in, outcome_in}
 use Rattle.byte_bake.specs.Baked.{BakedBytes}
 use Rattle.byte_bake.specs.Isolation.{SameLengths, SameShown}
 

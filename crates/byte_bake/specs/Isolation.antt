@@ -1,5 +1,5 @@
 -- Two makers in one scene, baked from bytes: demand 3; scope, "Two makers, one scene". Definitions only.
-use Rattle.std.specs.Prelude.{◌≡◌, ℕ, ◌*◌, length, take}
+use Rattle.std.specs.Prelude.{◌≡◌, ◌*◌, length, take}
 use Rattle.bake.specs.declared.Answer.{Answer}
 use Rattle.bake.specs.Baked.{Room}
 use Rattle.bake.specs.Isolation as floats

@@ -1,7 +1,7 @@
 -- A bake in floats whose outputs are written in bytes. Assumes nothing.
-use mathlib.Core.Path.{◌≡◌, refl, sym, ap, ◌∙◌}
-use mathlib.Core.Bool.{Bool, true, false}
-use mathlib.Core.List.{List, ◌++◌}
+use mathlib.Core.Path.{◌≡◌, refl, sym, ◌∙◌}
+use mathlib.Core.Bool.{false}
+use mathlib.Core.List.{List, [], ◌++◌}
 use mathlib.Core.Option.{Option, none, some}
 use Prim.Native.Nat.{ℕ, zero, suc, ◌/◌, min}
 use native.Mathlib.Omega.{arith}
@@ -16,12 +16,12 @@ use Rattle.model.specs.Refusals.{lowest, early_number}
 use Rattle.model.specs.Bake as model
 use Rattle.model.proofs.Numbers.{lowest-none}
 use Rattle.model.proofs.Demand.{measured}
+use Rattle.wire.specs.Bytes.{written_as}
 use Rattle.tables.specs.Decoded.{Lent, scene_of}
 use Rattle.checks.specs.Drawn.{tables_number}
-use Rattle.bake_stages.specs.Scratch.{Slices, room_of, scratch_left}
+use Rattle.bake_stages.specs.Scratch.{room_of, scratch_left}
 use Rattle.bake.specs.declared.Answer.{Answer}
 use Rattle.bake.specs.Baked.{Room, request_of, outcome, room_after, Baked}
-use Rattle.byte_checks.specs.Numbers.{early_in, first_in}
 use Rattle.byte_baking.specs.Output.{ByteOutput, with_floats, with_output, Fits}
 use Rattle.byte_baking.specs.Baked.{request_in, outcome_in, is_reached, room_in, BakedIn}
 use Rattle.byte_baking.proofs.OutputLaws.{whole, fits, start}
@@ -136,3 +136,8 @@ module _ (l : Lent) (i : ℕ) (time : Float) (r : Room) (o : ByteOutput) (p n t 
         });
     bytes = w ∙ (λ j. with_output (starts j) o) ∙ (λ j. with_output (same_outcome j).output o);
   }
+
+-- no floats leave the bytes as they are
+pub nothing-written : (bytes : List ℕ) → bytes ≡ with_floats [] bytes
+unfolding written_as
+nothing-written bytes = refl

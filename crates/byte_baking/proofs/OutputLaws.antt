@@ -1,13 +1,13 @@
 -- One output of a bake, in floats and in bytes. Assumes nothing.
 use mathlib.Core.Path.{◌≡◌, sym, ap, ◌∙◌}
 use mathlib.Core.List.{List, ◌++◌, append_assoc}
-use Prim.Native.Nat.{ℕ, ◌*◌, ◌/◌, ◌≤◌, min}
+use Prim.Native.Nat.{ℕ, ◌/◌, ◌≤◌, min}
 use native.Mathlib.Omega.{arith}
 use lib.Ieee.{Float, binary32, to_bits}
 use lib.ListN.{length, take, drop, length-append, length-drop, take-append-drop}
 use lib.Seq.{length-take-le, take_at, drop-append-le}
 use Rattle.model.specs.Bake.{written}
-use Rattle.wire.specs.Bytes.{written_as, WroteBytes, bytes_of}
+use Rattle.wire.specs.Bytes.{WroteBytes, bytes_of}
 use Rattle.wire.proofs.Writing.{bytes-length, all-written}
 use Rattle.byte_baking.specs.Output.{with_floats, Fits}
 

@@ -1,14 +1,25 @@
 -- A bake whose outputs are bytes: what it answers and leaves. Definitions only.
 use Rattle.std.specs.Prelude.{◌≡◌, Bool, ℕ, ◌/◌, min, eqb, Float, length}
-use Rattle.borrowed.specs.Slices.{Change}
+use Rattle.borrowed.specs.Slices.{Words, Floats, Change}
 use Rattle.model.specs.Lists.{pick}
 use Rattle.model.specs.Bake as model
 use Rattle.tables.specs.Decoded.{Lent, scene_of}
-use Rattle.bake_stages.specs.Scratch.{room_of, scratch_left}
+use Rattle.worlds.specs.declared.Room as lent
+use Rattle.bake_stages.specs.Scratch.{room_of, scratch_lent, scratch_left}
 use Rattle.bake.specs.declared.Answer.{Answer}
-use Rattle.bake.specs.Baked.{Room, answer_of}
+use Rattle.bake.specs.Baked.{Room, output_room, answer_of}
 use Rattle.byte_checks.specs.Numbers.{early_in, first_in}
 use Rattle.byte_baking.specs.Output.{ByteOutput, with_output}
+
+-- the room of a bake, with walk room and world slots lent as one, and each output by itself
+abbrev pub room_over : Words → Floats → lent.Room → lent.Room → Floats → Floats → Floats → Change Room
+room_over marks slots old new positions normals tangents =
+    let scratch = scratch_lent marks slots old new in
+    let output = output_room positions normals tangents in
+    record {
+      from = record { scratch = scratch.from; output = output.from };
+      to = record { scratch = scratch.to; output = output.to };
+    }
 
 -- node i at a time; an output has as much room as both its floats and its bytes have
 abbrev pub request_in : ℕ → Float → Room → ByteOutput → model.Request

@@ -2,4 +2,3 @@ pub mod OneRecord
 pub mod TableThere
 pub mod SceneLaws
 pub mod CallLaws
-pub mod OutOfTable

@@ -26,7 +26,7 @@ use Rattle.tables.specs.declared.SkinRow.{SkinRow}
 use Rattle.tables.specs.declared.SkeletonRow.{SkeletonRow}
 use Rattle.tables.specs.Records.{alone, node_words, channel_words, node_row, channel_row}
 use Rattle.tables.specs.Tags.{track_for}
-use Rattle.tables.proofs.WholeRecords.{same-node, same-channel, same-mesh, same-primitive, same_target, same-in-between, same-skin, same-skeleton}
+use Rattle.tables.specs.Alone.{same-node, same-channel, same-mesh, same-primitive, same_target, same-in-between, same-skin, same-skeleton}
 use Rattle.row_checks.specs.declared.Sizes.{Sizes}
 use Rattle.row_checks.specs.Places.{node_fits, mesh_fits, primitive_fits, target_fits, in_between_fits, skeleton_fits}
 use Rattle.row_checks.specs.Bounds.{node_within, tags_known, mesh_within, primitive_within, target_within, in_between_within, skin_within, skeleton_within}

@@ -4,30 +4,31 @@ ghost use Rattle.refusals.specs.Drawn.{number_drawn};
 ghost use Rattle.wire.specs.Bytes.{words_in};
 ghost use Rattle.checks.specs.declared.Table.TheVariants as table;
 ghost use Rattle.skin.specs.Weights.{Meshed};
-ghost use Rattle.lent_bytes.specs.Bytes.{bytes_lent};
+ghost use Rattle.lent_bytes.specs.Bytes.{lent_of_bytes};
+ghost use Rattle.worlds.specs.Rooms.{scratch_in};
 ghost use Rattle.byte_checks.specs.Bytes.{TableThere};
 ghost use Rattle.byte_checks.specs.Numbers.{room_in, place_in, early_in, first_in};
 
 use crate::lines::check_scene;
-use crate::numbers::{check_tables, child_entries};
-use crate::records::node_row;
+use crate::numbers::check_tables;
+use crate::records::{Bytes, node_row};
+use lent_bytes::LentBytes;
 use refusals::Refusal;
 use tables::{Graph, Header};
+use worlds::Space;
 
 // What room for so many entries, poses and worlds draws, and then the decoding room.
 fn check_room(
     words: &[u8],
     graph: Graph,
-    walk: usize,
-    poses: usize,
-    worlds: usize,
+    space: Space,
     drawn: Result<(), Refusal>,
 ) -> Result<(), Refusal>
     requires { TableThere words.now graph.nodes table.Nodes }
-    ensures { number_drawn result ≡ room_in (number_drawn drawn) (words_in words.now) graph walk poses worlds }
+    ensures { number_drawn result ≡ room_in (number_drawn drawn) (words_in words.now) graph space.walk space.poses space.worlds }
 {
-    let children = child_entries(words, graph.nodes);
-    if worlds::is_short_for(children, graph, walk, poses, worlds) {
+    let children = checks::child_entries(Bytes { words }, graph.nodes);
+    if worlds::is_short_for(children, graph, space) {
         return Err(Refusal::ShortScratch);
     }
     drawn
@@ -35,43 +36,27 @@ fn check_room(
 
 // What a placing of a scene in bytes draws, with room for so many entries, poses and worlds; `drawn` is what the
 // decoding room draws.
-pub fn check_place(
-    words: &[u8],
-    floats: &[u8],
-    node_weights: &[u8],
-    mesh_weights: &[u8],
-    h: Header,
-    walk: usize,
-    poses: usize,
-    worlds: usize,
-    drawn: Result<(), Refusal>,
-) -> Result<(), Refusal>
-    ensures { number_drawn result ≡ place_in (number_drawn drawn) (bytes_lent words floats node_weights mesh_weights h)
-        (record { walk_room = walk; pose_slots = poses; world_slots = worlds }) }
+pub fn check_place(lent: LentBytes, space: Space, drawn: Result<(), Refusal>) -> Result<(), Refusal>
+    ensures { number_drawn result ≡ place_in (number_drawn drawn) (lent_of_bytes lent.entry)
+        (scratch_in space) }
 {
-    check_tables(words, floats, node_weights, mesh_weights, h)?;
-    check_room(words, h.graph, walk, poses, worlds, drawn)
+    check_tables(lent)?;
+    check_room(lent.words, lent.header.graph, space, drawn)
 }
 
 // What a bake of a scene in bytes draws as far as 6.
 fn check_early(
-    words: &[u8],
-    floats: &[u8],
-    node_weights: &[u8],
-    mesh_weights: &[u8],
-    h: Header,
+    lent: LentBytes,
     time: f32,
-    walk: usize,
-    poses: usize,
-    worlds: usize,
+    space: Space,
     drawn: Result<(), Refusal>,
 ) -> Result<(), Refusal>
     ensures { number_drawn result ≡ early_in (number_drawn drawn)
-        (bytes_lent words floats node_weights mesh_weights h) time
-        (record { walk_room = walk; pose_slots = poses; world_slots = worlds }) }
+        (lent_of_bytes lent.entry) time
+        (scratch_in space) }
 {
-    check_scene(words, floats, node_weights, mesh_weights, h, time)?;
-    check_room(words, h.graph, walk, poses, worlds, drawn)
+    check_scene(lent, time)?;
+    check_room(lent.words, lent.header.graph, space, drawn)
 }
 
 // Whether a node has a mesh.
@@ -89,35 +74,18 @@ fn has_mesh(words: &[u8], h: Header, node: u32) -> bool
 
 // What a bake of a scene in bytes draws as far as 7.
 pub fn check_first(
-    words: &[u8],
-    floats: &[u8],
-    node_weights: &[u8],
-    mesh_weights: &[u8],
-    h: Header,
+    lent: LentBytes,
     node: u32,
     time: f32,
-    walk: usize,
-    poses: usize,
-    worlds: usize,
+    space: Space,
     drawn: Result<(), Refusal>,
 ) -> Result<(), Refusal>
     ensures { number_drawn result ≡ first_in (number_drawn drawn)
-        (bytes_lent words floats node_weights mesh_weights h) node time
-        (record { walk_room = walk; pose_slots = poses; world_slots = worlds }) }
+        (lent_of_bytes lent.entry) node time
+        (scratch_in space) }
 {
-    check_early(
-        words,
-        floats,
-        node_weights,
-        mesh_weights,
-        h,
-        time,
-        walk,
-        poses,
-        worlds,
-        drawn,
-    )?;
-    if has_mesh(words, h, node) {
+    check_early(lent, time, space, drawn)?;
+    if has_mesh(lent.words, lent.header, node) {
         return Ok(());
     }
     Err(Refusal::NoSuchNode)

@@ -8,14 +8,15 @@ ghost use Rattle.tables.specs.Tags.{track_for};
 ghost use Rattle.checks.specs.declared.Table.TheVariants as table;
 ghost use Rattle.pose_slots.specs.Channels.{channel_in, channels_in};
 ghost use Rattle.pose.specs.Lines.{out_of_line, NoneDrawn};
-ghost use Rattle.lent_bytes.specs.Bytes.{bytes_lent};
+ghost use Rattle.lent_bytes.specs.Bytes.{lent_of_bytes};
 ghost use Rattle.byte_checks.specs.Bytes.{TableThere};
 ghost use Rattle.byte_checks.specs.Scene.{scene_number};
 
 use crate::numbers::check_tables;
 use crate::records::channel_row;
+use lent_bytes::LentBytes;
 use refusals::Refusal;
-use tables::{ChannelRow, Header};
+use tables::ChannelRow;
 use tracks::Part;
 
 // Whether a channel is an even track that is aimed at one of n nodes and has keys that are not in line.
@@ -47,22 +48,20 @@ fn some_out_of_line(words: &[u8], floats: &[u8], channels: Part, n: usize) -> bo
 }
 
 // What scene and time draw, whatever room is lent.
-pub fn check_scene(
-    words: &[u8],
-    floats: &[u8],
-    node_weights: &[u8],
-    mesh_weights: &[u8],
-    h: Header,
-    time: f32,
-) -> Result<(), Refusal>
-    ensures { number_drawn result ≡ scene_number (bytes_lent words floats node_weights mesh_weights h) time }
+pub fn check_scene(lent: LentBytes, time: f32) -> Result<(), Refusal>
+    ensures { number_drawn result ≡ scene_number (lent_of_bytes lent.entry) time }
 {
-    check_tables(words, floats, node_weights, mesh_weights, h)?;
+    check_tables(lent)?;
     if float::is_nan(time) {
         return Err(Refusal::NoTime);
     }
-    let graph = h.graph;
-    if some_out_of_line(words, floats, h.channels, graph.nodes.count) {
+    let graph = lent.header.graph;
+    if some_out_of_line(
+        lent.words,
+        lent.floats,
+        lent.header.channels,
+        graph.nodes.count,
+    ) {
         return Err(Refusal::KeysOutOfLine);
     }
     Ok(())

@@ -2,11 +2,14 @@
 #![tactic(auto)]
 
 ghost use Rattle.std.specs.Prelude.{◌*◌, ◌≤◌, length};
-ghost use Rattle.checks.specs.Drawn.{scene_lent};
+ghost use Rattle.tables.specs.Decoded.{lent_of};
+ghost use Rattle.worlds.specs.Placed.{answer_of, NodesPlaced};
+ghost use Rattle.borrowed.specs.Slices.{change};
 ghost use Rattle.byte_placing.specs.Placed.{placing_room, PlacedIn, WrittenBack};
 
-use tables::Header;
-use worlds::Answer;
+use refusals::Refusal;
+use tables::Lent;
+use worlds::Room;
 
 // Writes n codes and n matrices to the start of bytes.
 fn write_back(n: usize, codes: &[u32], matrices: &[f32], places: &mut [u8], worlds: &mut [u8])
@@ -16,18 +19,34 @@ fn write_back(n: usize, codes: &[u32], matrices: &[f32], places: &mut [u8], worl
         places.new worlds.old worlds.new }
 {
     let m = n * 16;
-    wire::write_words(&codes[..n], places);
-    wire::write_floats(&matrices[..m], worlds);
+    wire::write(&codes[..n], places);
+    wire::write(&matrices[..m], worlds);
+}
+
+// Where every node stands, its place and its world in slices.
+fn place_numbers(
+    lent: Lent,
+    marks: &[u32],
+    slots: &[f32],
+    walk: &mut [u32],
+    codes: &mut [u32],
+    matrices: &mut [f32],
+) -> Result<usize, Refusal>
+    ensures { NodesPlaced (lent_of lent.entry) marks.now slots.now (change walk) (change codes)
+        (change matrices) (answer_of result) }
+{
+    let mut room = Room {
+        walk,
+        places: codes,
+        worlds: matrices,
+    };
+    worlds::posed_node_transforms(lent, marks, slots, &mut room)
 }
 
 // Where every node stands, as `worlds::posed_node_transforms` says it, in numbers and in bytes: there are as many world
-// slots as both have.
+// slots as both have. The slices are no struct: a field can't be cut while others of the same struct are in use.
 pub fn place_over(
-    words: &[u32],
-    floats: &[f32],
-    node_weights: &[f32],
-    mesh_weights: &[f32],
-    h: Header,
+    lent: Lent,
     marks: &[u32],
     slots: &[f32],
     walk: &mut [u32],
@@ -35,29 +54,21 @@ pub fn place_over(
     matrices: &mut [f32],
     places: &mut [u8],
     worlds: &mut [u8],
-) -> Answer
-    ensures { PlacedIn 0 (scene_lent words floats node_weights mesh_weights h) marks.now
-        slots.now (placing_room walk codes matrices places worlds) result }
+) -> Result<usize, Refusal>
+    ensures { PlacedIn 0 (lent_of lent.entry) marks.now slots.now
+        (placing_room walk codes matrices places worlds) (answer_of result) }
 {
-    let c = wire::least(codes.len(), places.len() / 4);
-    let m = wire::least(matrices.len(), worlds.len() / 4);
-    let a = Answer::from(worlds::posed_node_transforms(
-        words,
-        floats,
-        node_weights,
-        mesh_weights,
-        h,
+    let c = codes.len().min(places.len() / 4);
+    let m = matrices.len().min(worlds.len() / 4);
+    let taken = place_numbers(
+        lent,
         marks,
         slots,
         walk,
         &mut codes[..c],
         &mut matrices[..m],
-    ));
-    let number = a.number;
-    if number != 0 {
-        return a;
-    }
-    let nodes = h.graph.nodes;
+    )?;
+    let nodes = lent.header.graph.nodes;
     write_back(nodes.count, codes, matrices, places, worlds);
-    a
+    Ok(taken)
 }

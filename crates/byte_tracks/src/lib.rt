@@ -13,7 +13,8 @@ ghost use Rattle.tracks.specs.Tracks.{track_in, table_number};
 use refusals::Refusal;
 use tracks::Track;
 
-// Whether every key is finite and above the one before; bytes past the last whole float are not counted.
+// Whether every key is finite and above the one before; bytes past the last whole float are not counted. Beside the one
+// of `tracks`: a trait for where the next key is read would be longer than either.
 pub fn keys_in_line(keys: &[u8]) -> bool
     ensures { result ≡ in_line (floats_in keys.now) }
 {

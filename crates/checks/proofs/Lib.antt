@@ -1,3 +1,4 @@
 pub mod Lowest
 pub mod Counted
 pub mod Clearing
+pub mod OutOfTable

@@ -2,13 +2,16 @@ ghost use Rattle.std.specs.Prelude.{◌≡◌, ◌+◌, min, length};
 ghost use Rattle.refusals.specs.Drawn.{number_drawn};
 ghost use Rattle.checks.specs.Drawn.{ByCount, record_words, count_within, table_number, whole_number, entries_number};
 ghost use Rattle.checks.specs.Drawn.{children_number, roots_number, listed_number, sizes_for, tables_number};
-ghost use Rattle.checks.specs.Drawn.{scene_lent, entry_cap, capped_entries};
+ghost use Rattle.checks.specs.Drawn.{sizes_of, entry_cap, capped_entries};
+ghost use Rattle.checks.specs.declared.Table.TheVariants as table;
+ghost use Rattle.tables.specs.Decoded as decoded;
+ghost use Rattle.tables.specs.Decoded.{lent_of};
 
 use crate::Table;
-use crate::records::{check, check_rows, lower, table_of};
+use crate::records::{Words, check, check_rows, lower, table_of};
 use refusals::{CHANNEL_LIMIT, CHILD_ENTRY_LIMIT, NODE_LIMIT, ROOT_LIMIT, Refusal};
 use row_checks::Sizes;
-use tables::Header;
+use tables::{Header, Lent};
 use tracks::Part;
 
 // The words of a record.
@@ -33,12 +36,7 @@ fn count_within(k: Table, count: usize) -> bool
     match k {
         Table::Nodes => count <= NODE_LIMIT,
         Table::Channels => count <= CHANNEL_LIMIT,
-        Table::Meshes => true,
-        Table::Primitives => true,
-        Table::Targets => true,
-        Table::InBetweens => true,
-        Table::Skins => true,
-        Table::Skeletons => true,
+        _ => true,
     }
 }
 
@@ -53,11 +51,11 @@ pub fn check_table(len: usize, t: Part, k: Table) -> Result<(), Refusal>
 }
 
 // What a table with its records draws. Records are looked at only where the table has them.
-fn check_whole(words: &[u32], s: Sizes, h: Header, k: Table) -> Result<(), Refusal>
-    ensures { ByCount s (number_drawn result) (λ floats. whole_number words.now floats s h k) }
+fn check_whole<W: Words>(words: W, s: Sizes, h: Header, k: Table) -> Result<(), Refusal>
+    ensures { ByCount s (number_drawn result) (λ floats. whole_number (W.said words) floats s h k) }
 {
     let t = table_of(h, k);
-    let drawn = check_table(words.len(), t, k);
+    let drawn = check_table(words.count(), t, k);
     if drawn == Err(Refusal::OutOfTable) {
         return drawn;
     }
@@ -71,38 +69,33 @@ const ENTRY_CAP: usize = CHILD_ENTRY_LIMIT + 1;
 pub fn capped(sum: usize, count: usize) -> usize
     ensures { result ≡ min (sum + count) entry_cap }
 {
-    if sum < ENTRY_CAP {
-        if count < ENTRY_CAP - sum {
-            return sum + count;
-        }
-    }
-    ENTRY_CAP
+    sum.saturating_add(count).min(ENTRY_CAP)
 }
 
 // The child entries of all nodes, an entry counted as often as it is listed, as far as one above their limit.
-pub fn child_entries(words: &[u32], nodes: Part) -> usize
-    ensures { result ≡ capped_entries words.now nodes }
+pub fn child_entries<W: Words>(words: W, nodes: Part) -> usize
+    requires { W.there words nodes table.Nodes }
+    ensures { result ≡ capped_entries (W.said words) nodes }
 {
     let count = nodes.count;
     let mut sum: usize = 0;
     for i in 0..count {
-        let row = tables::node_row(words, nodes, i);
-        let children = row.children;
-        sum = capped(sum, children.count);
+        sum = capped(sum, words.child_count(nodes, i));
     }
     sum
 }
 
 // What so many child entries draw.
-pub fn check_entries(entries: usize) -> Result<(), Refusal>
+fn check_entries(entries: usize) -> Result<(), Refusal>
     ensures { number_drawn result ≡ entries_number entries }
 {
     check(true, entries <= CHILD_ENTRY_LIMIT)
 }
 
 // What the child entries of all nodes draw.
-fn check_children(words: &[u32], nodes: Part) -> Result<(), Refusal>
-    ensures { number_drawn result ≡ children_number words.now nodes }
+fn check_children<W: Words>(words: W, nodes: Part) -> Result<(), Refusal>
+    requires { W.there words nodes table.Nodes }
+    ensures { number_drawn result ≡ children_number (W.said words) nodes }
 {
     check_entries(child_entries(words, nodes))
 }
@@ -111,13 +104,12 @@ fn check_children(words: &[u32], nodes: Part) -> Result<(), Refusal>
 pub fn check_roots(len: usize, roots: Part) -> Result<(), Refusal>
     ensures { number_drawn result ≡ roots_number len roots }
 {
-    let count = roots.count;
-    check(tracks::fits(roots, 1, len), count <= ROOT_LIMIT)
+    check(tracks::fits(roots, 1, len), roots.count <= ROOT_LIMIT)
 }
 
 // What all tables but the nodes draw.
-fn check_listed(words: &[u32], s: Sizes, h: Header) -> Result<(), Refusal>
-    ensures { ByCount s (number_drawn result) (λ floats. listed_number words.now floats s h) }
+fn check_listed<W: Words>(words: W, s: Sizes, h: Header) -> Result<(), Refusal>
+    ensures { ByCount s (number_drawn result) (λ floats. listed_number (W.said words) floats s h) }
 {
     let skeletons = check_whole(words, s, h, Table::Skeletons);
     let skins = lower(check_whole(words, s, h, Table::Skins), skeletons);
@@ -150,30 +142,38 @@ pub fn sizes_for(
     }
 }
 
-// The number of the tables: the lowest that applies to anything that is lent.
-pub fn check_tables(
-    words: &[u32],
-    floats: &[f32],
-    node_weights: &[f32],
-    mesh_weights: &[f32],
-    h: Header,
-) -> Result<(), Refusal>
-    ensures { number_drawn result ≡ tables_number (scene_lent words floats node_weights mesh_weights h) }
+// The same of a lent scene.
+pub fn sizes_of(lent: Lent) -> Sizes
+    ensures { result ≡ sizes_of (lent_of lent.entry) }
+{
+    sizes_for(
+        lent.words.len(),
+        lent.floats.len(),
+        lent.node_weights.len(),
+        lent.mesh_weights.len(),
+        lent.header,
+    )
+}
+
+// The number of the tables: the lowest that applies to anything that is lent, in words or in bytes.
+pub fn check_all<W: Words>(words: W, s: Sizes, h: Header) -> Result<(), Refusal>
+    ensures { (l : decoded.Lent) → l.words ≡ W.said words → l.header ≡ h → s ≡ sizes_of l
+        → number_drawn result ≡ tables_number l }
 {
     let graph = h.graph;
-    let s = sizes_for(
-        words.len(),
-        floats.len(),
-        node_weights.len(),
-        mesh_weights.len(),
-        h,
-    );
     let nodes = check_whole(words, s, h, Table::Nodes);
     if nodes == Err(Refusal::OutOfTable) {
         return nodes;
     }
     let children = check_children(words, graph.nodes);
-    let roots = check_roots(words.len(), graph.roots);
+    let roots = check_roots(words.count(), graph.roots);
     let listed = check_listed(words, s, h);
     lower(nodes, lower(children, lower(roots, listed)))
+}
+
+// The same of a lent scene.
+pub fn check_tables(lent: Lent) -> Result<(), Refusal>
+    ensures { number_drawn result ≡ tables_number (lent_of lent.entry) }
+{
+    check_all(lent.words, sizes_of(lent), lent.header)
 }

@@ -1,5 +1,10 @@
 // What a record draws, and what all records of a table draw.
-ghost use Rattle.std.specs.Prelude.{◌≡◌};
+ghost use Rattle.std.specs.Prelude.{◌≡◌, ◌<◌, List, ℕ, length, true, refl};
+ghost use Rattle.row_checks.specs.Places.{fits_in};
+ghost use Rattle.checks.specs.declared.Table.TheVariants as table;
+ghost use Rattle.checks.specs.Drawn.{child_count, record_words};
+ghost use Rattle.tracks.specs.declared.Part.{Part};
+ghost use Rattle.checks.specs.declared.Table.{Table};
 ghost use Rattle.refusals.specs.Drawn.{number_drawn};
 ghost use Rattle.checks.specs.Drawn.{ByCount, drawn, lower_of, lowest_below, table_of, node_number, channel_number};
 ghost use Rattle.checks.specs.Drawn.{mesh_number, primitive_number, target_number, in_between_number, skin_number};
@@ -30,7 +35,7 @@ pub(crate) fn check(fits: bool, within: bool) -> Result<(), Refusal>
 
 // The lower of two answers: the lower refusal, or the one that there is. The numbers are compared: the derived order
 // is proved over the variants' tags, and contracts speak of numbers.
-pub fn lower(a: Result<(), Refusal>, b: Result<(), Refusal>) -> Result<(), Refusal>
+pub(crate) fn lower(a: Result<(), Refusal>, b: Result<(), Refusal>) -> Result<(), Refusal>
     ensures { number_drawn result ≡ lower_of (number_drawn a) (number_drawn b) }
 {
     let Err(x) = a else {
@@ -46,18 +51,15 @@ pub fn lower(a: Result<(), Refusal>, b: Result<(), Refusal>) -> Result<(), Refus
 pub fn table_of(h: Header, k: Table) -> Part
     ensures { result ≡ table_of h k }
 {
-    let graph = h.graph;
-    let meshes = h.meshes;
-    let skins = h.skins;
     match k {
-        Table::Nodes => graph.nodes,
+        Table::Nodes => h.graph.nodes,
         Table::Channels => h.channels,
-        Table::Meshes => meshes.meshes,
-        Table::Primitives => meshes.primitives,
-        Table::Targets => meshes.targets,
-        Table::InBetweens => meshes.in_betweens,
-        Table::Skins => skins.skins,
-        Table::Skeletons => skins.skeletons,
+        Table::Meshes => h.meshes.meshes,
+        Table::Primitives => h.meshes.primitives,
+        Table::Targets => h.meshes.targets,
+        Table::InBetweens => h.meshes.in_betweens,
+        Table::Skins => h.skins.skins,
+        Table::Skeletons => h.skins.skeletons,
     }
 }
 
@@ -135,14 +137,63 @@ pub fn check_row(words: &[u32], s: Sizes, t: Part, k: Table, i: usize) -> Result
     }
 }
 
+// The words of a scene's records, as they are lent: as words, or as the bytes of words.
+pub trait Words: Copy {
+    // The words, and what is asked of a table whose records are read.
+    ghost said: { Self → List ℕ };
+
+    ghost there: { Self → Part → Table → Type 0 };
+
+    fn count(self) -> usize
+        ensures { result ≡ length (said self) };
+
+    // The child entries of node i.
+    fn child_count(self, nodes: Part, i: usize) -> usize
+        requires { there self nodes table.Nodes × (i < nodes.count) }
+        ensures { result ≡ child_count (said self) nodes i };
+
+    // What record i of a table draws.
+    fn check_row(self, s: Sizes, t: Part, k: Table, i: usize) -> Result<(), Refusal>
+        requires { there self t k × (i < t.count) }
+        ensures { ByCount s (number_drawn result) (λ floats. row_number (said self) floats s t k i) };
+
+    // A table that lies in the words meets what is asked.
+    ghost lies: { (w : Self) (t : Part) (k : Table)
+        → fits_in t (record_words k) (length (said w)) ≡ true → there w t k };
+}
+
+impl<'a> Words for &'a [u32] {
+    ghost said = { λ w. w.now };
+
+    ghost there = { λ w t k. k ≡ k };
+
+    ghost lies = { λ w t k e. refl };
+
+    fn count(self) -> usize {
+        self.len()
+    }
+
+    fn child_count(self, nodes: Part, i: usize) -> usize {
+        let row = tables::node_row(self, nodes, i);
+        let children = row.children;
+        children.count
+    }
+
+    fn check_row(self, s: Sizes, t: Part, k: Table, i: usize) -> Result<(), Refusal> {
+        check_row(self, s, t, k, i)
+    }
+}
+
 // The lowest number that a record of a table draws.
-pub(crate) fn check_rows(words: &[u32], s: Sizes, t: Part, k: Table) -> Result<(), Refusal>
-    ensures { ByCount s (number_drawn result) (λ floats. lowest_below t.count (row_number words.now floats s t k)) }
+pub(crate) fn check_rows<W: Words>(words: W, s: Sizes, t: Part, k: Table) -> Result<(), Refusal>
+    requires { W.there words t k }
+    ensures { ByCount s (number_drawn result)
+        (λ floats. lowest_below t.count (row_number (W.said words) floats s t k)) }
 {
     let count = t.count;
     let mut lowest = Ok(());
     for i in 0..count {
-        lowest = lower(lowest, check_row(words, s, t, k, i));
+        lowest = lower(lowest, words.check_row(s, t, k, i));
     }
     lowest
 }

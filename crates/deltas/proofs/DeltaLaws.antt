@@ -1,7 +1,7 @@
 -- Deltas added to the rows of a flat slice. Assumes nothing.
 use mathlib.Core.Path.{◌≡◌, refl, sym, ap, ◌∙◌}
 use mathlib.Core.List.{List, [], ◌∷◌, ◌++◌, zip_with, append_assoc}
-use Prim.Native.Nat.{ℕ, zero, suc, ◌+◌, ◌-◌, ◌*◌, ◌/◌, ◌≤◌, min}
+use Prim.Native.Nat.{ℕ, zero, suc, ◌+◌, ◌*◌, ◌/◌, ◌≤◌, min}
 use native.Mathlib.Nat.{suc-mul, div-mul-le_self, zero-mul}
 use native.Mathlib.Omega.{arith}
 use lib.Ieee.{Float, nan}

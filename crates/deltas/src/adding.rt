@@ -25,7 +25,7 @@ pub fn add_scaled(out: &mut [f32], w: f32, deltas: &[f32])
     ensures { out.new ≡ over_rows 3 (with_deltas (λ v d. v ⊞ w ⊙ d) (rows_in 3 out.old)
         (rows_in 3 deltas.now)) out.old }
 {
-    let n = wire::least(out.len() / 3, deltas.len() / 3) * 3;
+    let n = (out.len() / 3).min(deltas.len() / 3) * 3;
     for k in 0..n {
         out[k] = out[k] + w * deltas[k];
     }
@@ -36,7 +36,7 @@ pub fn add_tangents(out: &mut [f32], w: f32, deltas: &[f32])
     ensures { out.new ≡ over_rows 4 (with_deltas (λ v d. (take 3 v ⊞ w ⊙ d) ++ drop 3 v)
         (rows_in 4 out.old) (rows_in 3 deltas.now)) out.old }
 {
-    let n = wire::least(out.len() / 4, deltas.len() / 3);
+    let n = (out.len() / 4).min(deltas.len() / 3);
     for i in 0..n {
         let o = i * 4;
         let d = i * 3;
@@ -65,7 +65,7 @@ pub fn add_between(out: &mut [f32], t: f32, low: &[f32], high: &[f32], count: us
     ensures { out.new ≡ over_rows 3 (with_deltas ◌⊞◌ (rows_in 3 out.old)
         (tabulate count (mixed_in t low.now high.now))) out.old }
 {
-    let n = wire::least(out.len() / 3, count) * 3;
+    let n = (out.len() / 3).min(count) * 3;
     let lows = low.len() / 3 * 3;
     let highs = high.len() / 3 * 3;
     for k in 0..n {

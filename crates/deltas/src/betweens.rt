@@ -6,15 +6,15 @@ ghost use Rattle.deltas.specs.Betweens.{betweens_in, station_at, sharing, kept_i
 
 use crate::Station;
 use crate::records::between_at;
-use tables::Header;
+use tables::Lent;
 use tracks::Part;
 
 // The in-between number k of a part, with its weight read.
-pub fn station_at(words: &[u32], floats: &[f32], h: Header, betweens: Part, k: usize) -> Station
-    ensures { result ≡ station_at words.now floats.now h betweens k }
+pub fn station_at(lent: Lent, betweens: Part, k: usize) -> Station
+    ensures { result ≡ station_at lent.entry.words.now lent.entry.floats.now lent.entry.header betweens k }
 {
-    let row = between_at(words, h, betweens, k);
-    let weight = tables::weight_of(floats, row);
+    let row = between_at(lent.words, lent.header, betweens, k);
+    let weight = tables::weight_of(lent.floats, row);
     let positions = row.positions;
     let normals = row.normals;
     Station {
@@ -38,13 +38,13 @@ fn is_valid(w: f32) -> bool
 }
 
 // Whether an in-between of a part has a valid weight.
-pub fn has_valid(words: &[u32], floats: &[f32], h: Header, betweens: Part) -> bool
+pub fn has_valid(lent: Lent, betweens: Part) -> bool
     ensures { result ≡ any_of (λ (b : InBetween). valid b.weight)
-        (betweens_in words.now floats.now h betweens) }
+        (betweens_in lent.entry.words.now lent.entry.floats.now lent.entry.header betweens) }
 {
     let count = betweens.count;
     for k in 0..count {
-        if is_valid(station_at(words, floats, h, betweens, k).weight) {
+        if is_valid(station_at(lent, betweens, k).weight) {
             return true;
         }
     }
@@ -52,13 +52,13 @@ pub fn has_valid(words: &[u32], floats: &[f32], h: Header, betweens: Part) -> bo
 }
 
 // How many in-betweens of a part have the weight w.
-fn sharing_weight(words: &[u32], floats: &[f32], h: Header, betweens: Part, w: f32) -> usize
-    ensures { result ≡ sharing (betweens_in words.now floats.now h betweens) w }
+fn sharing_weight(lent: Lent, betweens: Part, w: f32) -> usize
+    ensures { result ≡ sharing (betweens_in lent.entry.words.now lent.entry.floats.now lent.entry.header betweens) w }
 {
     let count = betweens.count;
     let mut n = 0;
     for k in 0..count {
-        if station_at(words, floats, h, betweens, k).weight == w {
+        if station_at(lent, betweens, k).weight == w {
             n += 1;
         }
     }
@@ -66,11 +66,11 @@ fn sharing_weight(words: &[u32], floats: &[f32], h: Header, betweens: Part, w: f
 }
 
 // Whether an in-between of weight w is a station: no other has its weight.
-pub fn is_kept(words: &[u32], floats: &[f32], h: Header, betweens: Part, w: f32) -> bool
-    ensures { result ≡ kept_in (betweens_in words.now floats.now h betweens) w }
+pub fn is_kept(lent: Lent, betweens: Part, w: f32) -> bool
+    ensures { result ≡ kept_in (betweens_in lent.entry.words.now lent.entry.floats.now lent.entry.header betweens) w }
 {
     if is_valid(w) {
-        return sharing_weight(words, floats, h, betweens, w) == 1;
+        return sharing_weight(lent, betweens, w) == 1;
     }
     false
 }

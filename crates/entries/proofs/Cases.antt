@@ -5,7 +5,7 @@ use mathlib.Core.Option.{Option, none, some}
 use Prim.Native.Nat.{ℕ, zero, suc}
 use Rattle.model.specs.Lists.{or_else}
 use Rattle.model.specs.Matrix.{Matrix}
-use Rattle.model.specs.Transform.{Trs, Transform, parts, matrix}
+use Rattle.model.specs.Transform.{Trs, parts, matrix}
 use Rattle.entries.specs.Handed.{chosen}
 use Rattle.model.specs.Written.{Answered, case_of}
 

@@ -14,7 +14,7 @@ ghost use Rattle.borrowed.specs.Written.{Writes};
 pub extern "C" fn mesh3d_sqrt_all(xs: &[f32], out: &mut [f32]) -> usize
     ensures { Writes (map (sqrt_of binary32) xs.now) out result }
 {
-    let n = wire::least(xs.len(), out.len());
+    let n = xs.len().min(out.len());
     for i in 0..n {
         out[i] = square_root::sqrt(xs[i]);
     }
@@ -26,7 +26,7 @@ pub extern "C" fn mesh3d_sqrt_all(xs: &[f32], out: &mut [f32]) -> usize
 pub extern "C" fn mesh3d_narrow_all(xs: &[f64], out: &mut [f32]) -> usize
     ensures { Writes (map narrow_of xs.now) out result }
 {
-    let n = wire::least(xs.len(), out.len());
+    let n = xs.len().min(out.len());
     for i in 0..n {
         out[i] = float::narrow(xs[i]);
     }
@@ -38,7 +38,7 @@ pub extern "C" fn mesh3d_narrow_all(xs: &[f64], out: &mut [f32]) -> usize
 pub extern "C" fn mesh3d_turn_weight_all(vs: &[f32], cs: &[f32], out: &mut [f32]) -> usize
     ensures { Writes (zip_with weight vs.now cs.now) out result }
 {
-    let n = wire::least(wire::least(vs.len(), cs.len()), out.len());
+    let n = vs.len().min(cs.len()).min(out.len());
     for i in 0..n {
         out[i] = turn::turn_weight(vs[i], cs[i]);
     }

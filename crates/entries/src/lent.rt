@@ -6,8 +6,8 @@ ghost use Rattle.graph.specs.Marks.{Parents};
 ghost use Rattle.pose.specs.Encoded.{Posed};
 ghost use Rattle.worlds.specs.Placed.{NodesPlaced};
 
-use tables::Header;
-use worlds::Answer;
+use tables::{Header, Lent};
+use worlds::{Answer, Room};
 
 // 1, 2 or 0: what the tables draw, over all that is lent.
 #[unsafe(no_mangle)]
@@ -20,7 +20,14 @@ pub extern "C" fn mesh3d_tables_number(
 ) -> u32
     ensures { result ≡ tables_number (scene_lent words floats node_weights mesh_weights header) }
 {
-    refusals::number(checks::check_tables(words, floats, node_weights, mesh_weights, header))
+    let lent = Lent {
+        words,
+        floats,
+        node_weights,
+        mesh_weights,
+        header,
+    };
+    refusals::number(checks::check_tables(lent))
 }
 
 // The mark of each node, written to the start of `out`: 0 for none, 1 for a root, p + 3 where node p lists it. Answers
@@ -36,7 +43,14 @@ pub extern "C" fn mesh3d_parents(
 ) -> u32
     ensures { Parents (scene_lent words floats node_weights mesh_weights header) (change out) result }
 {
-    refusals::number(graph::parents(words, floats, node_weights, mesh_weights, header, out))
+    let lent = Lent {
+        words,
+        floats,
+        node_weights,
+        mesh_weights,
+        header,
+    };
+    refusals::number(graph::parents(lent, out))
 }
 
 // Where every node stands in a given pose. Answers 1, 2, 6 or 0, and the entries taken.
@@ -56,18 +70,19 @@ pub extern "C" fn mesh3d_place_floats(
     ensures { NodesPlaced (scene_lent words floats node_weights mesh_weights header) marks.now
         slots.now (change walk) (change places) (change worlds) result }
 {
-    Answer::from(worlds::posed_node_transforms(
+    let lent = Lent {
         words,
         floats,
         node_weights,
         mesh_weights,
         header,
-        marks,
-        slots,
+    };
+    let mut room = Room {
         walk,
         places,
         worlds,
-    ))
+    };
+    Answer::from(worlds::posed_node_transforms(lent, marks, slots, &mut room))
 }
 
 // The pose of every node at a time, in lent slots of four words and ten floats. Answers 1, 2, 3, 5, 6 or 0.
@@ -85,14 +100,12 @@ pub extern "C" fn mesh3d_sample_pose(
     ensures { Posed (scene_lent words floats node_weights mesh_weights header) time (change marks)
         (change slots) result }
 {
-    refusals::number(pose::sample_pose(
+    let lent = Lent {
         words,
         floats,
         node_weights,
         mesh_weights,
         header,
-        time,
-        marks,
-        slots,
-    ))
+    };
+    refusals::number(pose::sample_pose(lent, time, marks, slots))
 }

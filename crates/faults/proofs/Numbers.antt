@@ -18,8 +18,7 @@ use Rattle.checks.specs.Drawn.{drawn, lower_of, lowest_below, sum_below, node_nu
 use Rattle.checks.specs.Drawn.{primitive_number, target_number, in_between_number, skin_number, skeleton_number, row_number}
 use Rattle.checks.specs.Drawn.{table_of, table_number, whole_number, roots_number, entries_number, children_number}
 use Rattle.checks.specs.Drawn.{listed_number, sizes_of, tables_number}
-use Rattle.word_checks.specs.declared.Asked.{Asked}
-use Rattle.word_checks.specs.Words.{row_asked, lowest_of, lowest_asked}
+use Rattle.word_checks.specs.Words.{Asked, row_asked, lowest_of, lowest_asked}
 use Rattle.word_checks.proofs.Lower.{lower-right, lower-assoc, lower-left-comm, lowest-append, lowest-map}
 use Rattle.word_checks.proofs.AskedLaws.{node-asked, channel-asked, mesh-asked, primitive-asked, target-asked}
 use Rattle.word_checks.proofs.AskedLaws.{in-between-asked, skin-asked, skeleton-asked}

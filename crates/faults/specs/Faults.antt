@@ -1,6 +1,6 @@
 -- Where a lent scene breaks the rules of its tables: of the spots that draw the number of its tables, the first, by
 -- table, record and word (docs/TABLES.md). Definitions only.
-use Rattle.std.specs.Prelude.{◌≡◌, false, List, [], ◌∷◌, ◌++◌, map, ℕ, zero, suc, eqb, length}
+use Rattle.std.specs.Prelude.{Option, Some, None, ◌≡◌, false, List, [], ◌∷◌, ◌++◌, map, ℕ, zero, suc, eqb, length}
 use Rattle.model.specs.Lists.{pick, any_of}
 use Rattle.tracks.specs.declared.Part.{Part}
 use Rattle.tables.specs.declared.Header.{Header}
@@ -9,9 +9,10 @@ use Rattle.row_checks.specs.declared.Sizes.{Sizes}
 use Rattle.checks.specs.declared.Table.{Table}
 use Rattle.checks.specs.declared.Table.TheVariants as table
 use Rattle.checks.specs.Drawn.{table_of, table_number, roots_number, child_count, sum_below, sizes_of, tables_number}
-use Rattle.word_checks.specs.declared.Asked.{Asked}
-use Rattle.word_checks.specs.Words.{row_asked, lowest_of}
+use Rattle.refusals.specs.Drawn.{number_of}
+use Rattle.word_checks.specs.Words.{Asked, row_asked, lowest_of}
 use Rattle.faults.specs.declared.Fault.{Fault}
+use Rattle.faults.specs.declared.Spot.{Spot}
 
 -- ---- spots
 
@@ -115,16 +116,7 @@ pub record First (n : ℕ) (list : List Fault) (f : Fault) : Type 0 where
 unfoldable pub fault_of : Lent → Fault
 fault_of l = pick (eqb (tables_number l) 0) no_fault (first_with (tables_number l) (spots l))
 
--- ---- what the stages tell
-
--- a fault, or else a later one
-unfoldable pub sooner : Fault → Fault → Fault
-sooner a b = pick (eqb a.number 0) b a
-
--- the fault of a record by its first word of a number
-unfoldable pub fault_at : ℕ → ℕ → Asked → Fault
-fault_at table i a = pick (eqb a.number 0) no_fault (spot table i a.word a.number)
-
--- the first of number n, where that is not 0
-abbrev pub Finds : ℕ → Fault → List Fault → Type 0
-Finds n r list = (n ≡ 0 → ⊥) → r ≡ first_with n list
+-- what the code's spot tells of a fault
+abbrev pub spot_told : Option Spot → Fault
+spot_told (Some s) = spot s.table s.«record» s.word (number_of s.refusal)
+spot_told None = no_fault

@@ -2,6 +2,11 @@
 // docs/TABLES.md has the layout and the limits.
 #![tactic(auto)]
 
+ghost use Rattle.std.specs.Prelude.{◌≡◌};
+ghost use Rattle.faults.specs.Faults.{spot_told};
+
+use refusals::Refusal;
+
 mod rows;
 mod spots;
 
@@ -17,4 +22,35 @@ pub struct Fault {
     pub table: u32,
     pub record: usize,
     pub word: u32,
+}
+
+// Where a refusal is drawn: the table, the record and the word.
+#[derive(Clone, Copy)]
+struct Spot {
+    refusal: Refusal,
+    table: u32,
+    record: usize,
+    word: u32,
+}
+
+// What C is told of a spot, or of none.
+impl From<Option<Spot>> for Fault {
+    ghost from_gives = { λ s f. f ≡ spot_told s };
+
+    fn from(spot: Option<Spot>) -> Fault {
+        match spot {
+            Some(s) => Fault {
+                number: u32::from(s.refusal),
+                table: s.table,
+                record: s.record,
+                word: s.word,
+            },
+            None => Fault {
+                number: 0,
+                table: 0,
+                record: 0,
+                word: 0,
+            },
+        }
+    }
 }

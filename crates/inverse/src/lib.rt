@@ -10,7 +10,6 @@ ghost use Rattle.model.specs.Matrix.{invertible, cofactors, inverse_transpose};
 ghost use Rattle.model.specs.Inverse.{apart, affine, cofactors64, determinant64, inverse_row, inverse_from};
 ghost use Rattle.model.specs.Inverse.{translation_of, affine_inverse, normal_matrix};
 ghost use Rattle.scene.specs.Values.{quat, mat3, linear_of, matrix_of};
-ghost use Rattle.inverse.specs.Wide.{wide_vec, wide3};
 
 use scene::{Mat3, Mat4, Quat, linear_det, linear_part};
 
@@ -78,27 +77,6 @@ pub fn linear_inverse_transpose(m: Mat4) -> Option<Mat3>
 
 // ---- the inverse of an affine matrix, in f64
 
-#[derive(Clone, Copy)]
-struct WideVec {
-    x: f64,
-    y: f64,
-    z: f64,
-}
-
-// Nine numbers, row by row.
-#[derive(Clone, Copy)]
-struct Wide3 {
-    m00: f64,
-    m01: f64,
-    m02: f64,
-    m10: f64,
-    m11: f64,
-    m12: f64,
-    m20: f64,
-    m21: f64,
-    m22: f64,
-}
-
 // More than 1e-6 from 0.
 fn is_apart(x: f32) -> bool
     ensures { result ≡ apart x }
@@ -114,64 +92,56 @@ fn is_affine(m: Mat4) -> bool
     are_finite(&a) & !(is_apart(a[12]) | is_apart(a[13]) | is_apart(a[14]) | is_apart(a[15] - 1.0))
 }
 
-// l in f64, which loses nothing.
-fn widen3(l: Mat3) -> Wide3
-    ensures { wide3 result ≡ mat3 l }
+// l in f64, which loses nothing: nine numbers, row by row.
+fn widen3(l: Mat3) -> [f64; 9]
+    ensures { result ≡ mat3 l }
 {
-    Wide3 {
-        m00: float::widen(l.m00),
-        m01: float::widen(l.m01),
-        m02: float::widen(l.m02),
-        m10: float::widen(l.m10),
-        m11: float::widen(l.m11),
-        m12: float::widen(l.m12),
-        m20: float::widen(l.m20),
-        m21: float::widen(l.m21),
-        m22: float::widen(l.m22),
-    }
+    [
+        float::widen(l.m00),
+        float::widen(l.m01),
+        float::widen(l.m02),
+        float::widen(l.m10),
+        float::widen(l.m11),
+        float::widen(l.m12),
+        float::widen(l.m20),
+        float::widen(l.m21),
+        float::widen(l.m22),
+    ]
 }
 
-fn translation_of(m: Mat4) -> WideVec
-    ensures { wide_vec result ≡ translation_of m.m }
+fn translation_of(m: Mat4) -> [f64; 3]
+    ensures { result ≡ translation_of m.m }
 {
-    WideVec {
-        x: float::widen(m.m[3]),
-        y: float::widen(m.m[7]),
-        z: float::widen(m.m[11]),
-    }
+    [
+        float::widen(m.m[3]),
+        float::widen(m.m[7]),
+        float::widen(m.m[11]),
+    ]
 }
 
 // The cofactors of l.
-fn cofactors64(l: Wide3) -> Wide3
-    ensures { wide3 result ≡ cofactors64 (wide3 l) }
+fn cofactors64(l: [f64; 9]) -> [f64; 9]
+    ensures { result ≡ cofactors64 l }
 {
-    let a = l.m00;
-    let b = l.m01;
-    let c = l.m02;
-    let d = l.m10;
-    let e = l.m11;
-    let f = l.m12;
-    let g = l.m20;
-    let h = l.m21;
-    let i = l.m22;
-    Wide3 {
-        m00: e * i - f * h,
-        m01: -(d * i - f * g),
-        m02: d * h - e * g,
-        m10: -(b * i - c * h),
-        m11: a * i - c * g,
-        m12: -(a * h - b * g),
-        m20: b * f - c * e,
-        m21: -(a * f - c * d),
-        m22: a * e - b * d,
-    }
+    let [a, b, c, d, e, f, g, h, i] = l;
+    [
+        e * i - f * h,
+        -(d * i - f * g),
+        d * h - e * g,
+        -(b * i - c * h),
+        a * i - c * g,
+        -(a * h - b * g),
+        b * f - c * e,
+        -(a * f - c * d),
+        a * e - b * d,
+    ]
 }
 
 // The determinant of l, by its first row and its cofactors c.
-fn determinant64(l: Wide3, c: Wide3) -> f64
-    ensures { result ≡ determinant64 (wide3 l) (wide3 c) }
+fn determinant64(l: [f64; 9], c: [f64; 9]) -> f64
+    ensures { result ≡ determinant64 l c }
 {
-    l.m00 * c.m00 + l.m01 * c.m01 + l.m02 * c.m02
+    l[0] * c[0] + l[1] * c[1] + l[2] * c[2]
 }
 
 fn is_invertible_f64(det: f64) -> bool
@@ -181,13 +151,13 @@ fn is_invertible_f64(det: f64) -> bool
 }
 
 // A row of the inverse from a column of the cofactors, r = 1 / determinant and the translation t, narrowed.
-fn inverse_row(a: f64, b: f64, c: f64, r: f64, t: WideVec) -> Quat
-    ensures { quat result ≡ map narrow_of (inverse_row (a ∷ b ∷ c ∷ []) r (wide_vec t)) }
+fn inverse_row(a: f64, b: f64, c: f64, r: f64, t: [f64; 3]) -> Quat
+    ensures { quat result ≡ map narrow_of (inverse_row (a ∷ b ∷ c ∷ []) r t) }
 {
     let x = a * r;
     let y = b * r;
     let z = c * r;
-    let w = -(x * t.x + y * t.y + z * t.z);
+    let w = -(x * t[0] + y * t[1] + z * t[2]);
     Quat {
         x: float::narrow(x),
         y: float::narrow(y),
@@ -197,12 +167,12 @@ fn inverse_row(a: f64, b: f64, c: f64, r: f64, t: WideVec) -> Quat
 }
 
 // The inverse from the cofactors c, r = 1 / determinant and the translation t, narrowed.
-fn inverse_from(c: Wide3, r: f64, t: WideVec) -> Mat4
-    ensures { result.m ≡ inverse_from (wide3 c) r (wide_vec t) }
+fn inverse_from(c: [f64; 9], r: f64, t: [f64; 3]) -> Mat4
+    ensures { result.m ≡ inverse_from c r t }
 {
-    let x = inverse_row(c.m00, c.m10, c.m20, r, t);
-    let y = inverse_row(c.m01, c.m11, c.m21, r, t);
-    let z = inverse_row(c.m02, c.m12, c.m22, r, t);
+    let x = inverse_row(c[0], c[3], c[6], r, t);
+    let y = inverse_row(c[1], c[4], c[7], r, t);
+    let z = inverse_row(c[2], c[5], c[8], r, t);
     Mat4 {
         m: [
             x.x, x.y, x.z, x.w, y.x, y.y, y.z, y.w, z.x, z.y, z.z, z.w, 0.0, 0.0, 0.0, 1.0,

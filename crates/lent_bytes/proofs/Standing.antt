@@ -1,5 +1,5 @@
 -- The scene that stands in a decoding room once its bytes are decoded. Assumes nothing.
-use mathlib.Core.Path.{◌≡◌, refl, sym, ap, ◌∙◌}
+use mathlib.Core.Path.{◌≡◌, refl, ap, ◌∙◌}
 use mathlib.Core.Bool.{Bool, true, false, ◌||◌}
 use mathlib.Core.List.{List, ◌++◌, append_assoc}
 use Prim.Native.Nat.{ℕ, ◌+◌, ◌-◌, ◌/◌, ◌≤◌}
@@ -14,7 +14,6 @@ use Rattle.model.specs.Written.{Wrote}
 use Rattle.wire.specs.Bytes.{read_as, words_in, floats_in}
 use Rattle.wire.proofs.Reading.{count}
 use Rattle.tables.specs.declared.Header.{Header}
-use Rattle.tables.specs.Decoded.{Lent}
 use Rattle.checks.specs.Drawn.{lent_as}
 use Rattle.lent_bytes.specs.Bytes.{Decoding, starting_with, floats_of, count_of, where_room, SceneBytes, lent_by, drawn_by, decoded_to, ends_of, standing_in, Within}
 

@@ -1,5 +1,5 @@
 -- A scene that is lent in bytes, and the room that it is decoded into. Definitions only.
-use Rattle.std.specs.Prelude.{Bool, ◌||◌, List, ◌++◌, ℕ, ◌+◌, ◌-◌, ◌/◌, ◌≤◌, ltb, Float, length, take, drop}
+use Rattle.std.specs.Prelude.{◌||◌, List, ◌++◌, ℕ, ◌+◌, ◌-◌, ◌/◌, ◌≤◌, ltb, Float, length, take, drop}
 use Rattle.borrowed.specs.Slices.{SharedWords, Words, Floats, Change}
 use Rattle.model.specs.Lists.{pick, part}
 use Rattle.model.specs.Refusals.{number, short_scratch}
@@ -8,6 +8,7 @@ use Rattle.tables.specs.declared.Header.{Header}
 use Rattle.tables.specs.Decoded.{Lent}
 use Rattle.checks.specs.Drawn.{lent_as}
 use Rattle.lent_bytes.specs.declared.Ends.{Ends}
+use Rattle.lent_bytes.specs.declared.LentBytes as code
 
 -- ---- the scene
 
@@ -16,6 +17,9 @@ lent_in words floats node_weights mesh_weights h =
     lent_as (words_in words) (floats_in floats) (floats_in node_weights) (floats_in mesh_weights) h
 
 -- of the slices that a call borrows
+abbrev pub lent_of_bytes : code.LentBytes → Lent
+lent_of_bytes l = lent_in l.words.now l.floats.now l.node_weights.now l.mesh_weights.now l.header
+
 abbrev pub bytes_lent : SharedWords → SharedWords → SharedWords → SharedWords → Header → Lent
 bytes_lent words floats node_weights mesh_weights h =
     lent_in words.entry.now floats.entry.now node_weights.entry.now mesh_weights.entry.now h
@@ -64,6 +68,14 @@ pub record SceneBytes : Type 0 where
   pub floats : List ℕ
   pub node_weights : List ℕ
   pub mesh_weights : List ℕ
+
+abbrev pub slices_of : code.LentBytes → SceneBytes
+slices_of l = record {
+  words = l.words.now;
+  floats = l.floats.now;
+  node_weights = l.node_weights.now;
+  mesh_weights = l.mesh_weights.now;
+}
 
 abbrev pub scene_bytes : SharedWords → SharedWords → SharedWords → SharedWords → SceneBytes
 scene_bytes words floats node_weights mesh_weights = record {

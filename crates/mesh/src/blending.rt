@@ -13,55 +13,40 @@ ghost use Rattle.mesh.specs.Blended.{count_in, blended_in};
 use crate::stations::{longer, widened};
 use crate::{Blend, Segment};
 use deltas::{Station, add_between, deltas_in, is_kept, station_at};
-use tables::{Header, Slot, TargetRow};
+use tables::{Lent, Slot, TargetRow};
 use tracks::Part;
 
 // The blend with in-between k among its stations, if it is one.
-fn widened_at(
-    words: &[u32],
-    floats: &[f32],
-    h: Header,
-    betweens: Part,
-    w: f32,
-    b: Blend,
-    k: usize,
-) -> Blend
-    ensures { result ≡ widened_by floats.now w
-        (betweens_in words.now floats.now h betweens) b
-        (station_at words.now floats.now h betweens k) }
+fn widened_at(lent: Lent, betweens: Part, w: f32, b: Blend, k: usize) -> Blend
+    ensures { result ≡ widened_by lent.entry.floats.now w
+        (betweens_in lent.entry.words.now lent.entry.floats.now lent.entry.header betweens) b
+        (station_at lent.entry.words.now lent.entry.floats.now lent.entry.header betweens k) }
 {
-    let s = station_at(words, floats, h, betweens, k);
-    if is_kept(words, floats, h, betweens, s.weight) {
-        return widened(floats, w, b, s);
+    let s = station_at(lent, betweens, k);
+    if is_kept(lent, betweens, s.weight) {
+        return widened(lent.floats, w, b, s);
     }
     b
 }
 
 // The blend with all in-betweens of a part that are stations.
-fn widened_by_all(
-    words: &[u32],
-    floats: &[f32],
-    h: Header,
-    betweens: Part,
-    w: f32,
-    start: Blend,
-) -> Blend
-    ensures { result ≡ foldl (widened_by floats.now w
-        (betweens_in words.now floats.now h betweens)) start
-        (stations_in words.now floats.now h betweens) }
+fn widened_by_all(lent: Lent, betweens: Part, w: f32, start: Blend) -> Blend
+    ensures { result ≡ foldl (widened_by lent.entry.floats.now w
+        (betweens_in lent.entry.words.now lent.entry.floats.now lent.entry.header betweens)) start
+        (stations_in lent.entry.words.now lent.entry.floats.now lent.entry.header betweens) }
 {
     let count = betweens.count;
     let mut b = start;
     for k in 0..count {
-        b = widened_at(words, floats, h, betweens, w, b, k);
+        b = widened_at(lent, betweens, w, b, k);
     }
     b
 }
 
 // The blend of a target at weight w.
-fn blend_of(words: &[u32], floats: &[f32], h: Header, row: TargetRow, w: f32) -> Blend
-    ensures { Blends floats.now (stations
-        (target_of (lent_in words.now floats.now h) row)) w result }
+fn blend_of(lent: Lent, row: TargetRow, w: f32) -> Blend
+    ensures { Blends lent.entry.floats.now (stations
+        (target_of (lent_in lent.entry.words.now lent.entry.floats.now lent.entry.header) row)) w result }
 {
     let positions = row.positions;
     let normals = row.normals;
@@ -81,10 +66,10 @@ fn blend_of(words: &[u32], floats: &[f32], h: Header, row: TargetRow, w: f32) ->
     };
     let start = Blend {
         segment: Segment { low, high },
-        positions: longer(floats, positions, 0),
-        normals: longer(floats, normals, 0),
+        positions: longer(lent.floats, positions, 0),
+        normals: longer(lent.floats, normals, 0),
     };
-    widened_by_all(words, floats, h, row.in_betweens, w, start)
+    widened_by_all(lent, row.in_betweens, w, start)
 }
 
 // How many deltas an attribute has between stations: as many as the target's own slot, else n.
@@ -114,23 +99,22 @@ fn add_blended(floats: &[f32], own: Slot, n: usize, t: f32, low: Slot, high: Slo
 
 // Adds a target that has stations to positions and normals.
 pub(crate) fn add_stations(
-    words: &[u32],
-    floats: &[f32],
-    h: Header,
+    lent: Lent,
     row: TargetRow,
     w: f32,
     positions: &mut [f32],
     normals: &mut [f32],
 )
-    ensures { StationsAdded (target_of (lent_in words.now floats.now h) row) w positions
-        normals }
+    ensures { StationsAdded
+        (target_of (lent_in lent.entry.words.now lent.entry.floats.now lent.entry.header) row)
+        w positions normals }
 {
-    let b = blend_of(words, floats, h, row, w);
+    let b = blend_of(lent, row, w);
     let low = b.segment.low;
     let high = b.segment.high;
     let t = (w - low.weight) / (high.weight - low.weight);
     add_blended(
-        floats,
+        lent.floats,
         row.positions,
         b.positions,
         t,
@@ -139,7 +123,7 @@ pub(crate) fn add_stations(
         positions,
     );
     add_blended(
-        floats,
+        lent.floats,
         row.normals,
         b.normals,
         t,

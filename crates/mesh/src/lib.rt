@@ -2,13 +2,15 @@
 // tangents that lie in lent flat slices.
 #![tactic(auto)]
 
+ghost use Rattle.borrowed.specs.Attributes.{positions_in, normals_in, tangents_in, SameSlices};
 ghost use Rattle.borrowed.specs.InPlace.{InPlace};
 ghost use Rattle.model.specs.Morph.{with_targets};
 ghost use Rattle.model.specs.Attributes.{shape_of};
 ghost use Rattle.mesh.specs.Lent.{targets_in};
 
+use borrowed::Vertices;
 use deltas::Station;
-use tables::Header;
+use tables::Lent;
 use tracks::Part;
 
 mod blending;
@@ -31,25 +33,15 @@ pub struct Blend {
 }
 
 // The vertices with the targets of a part added at these weights, in place.
-pub fn morphed(
-    words: &[u32],
-    floats: &[f32],
-    h: Header,
-    targets: Part,
-    weights: &[f32],
-    positions: &mut [f32],
-    normals: &mut [f32],
-    tangents: &mut [f32],
-)
-    ensures { InPlace (λ v. shape_of (with_targets
-        (targets_in words.now floats.now h targets) weights.now v)) positions normals
-        tangents }
+pub fn morphed(lent: Lent, targets: Part, weights: &[f32], out: &mut Vertices<'_>)
+    ensures moved { InPlace (λ v. shape_of (with_targets
+        (targets_in lent.entry.words.now lent.entry.floats.now lent.entry.header targets) weights.now v))
+        (positions_in out) (normals_in out) (tangents_in out) }
+    ensures same_slices { SameSlices out.old out.new }
 {
-    let n = wire::least(targets.count, weights.len());
+    let n = targets.count.min(weights.len());
     for k in 0..n {
         let w = weights[k];
-        targets::add_numbered(
-            words, floats, h, targets, k, w, positions, normals, tangents,
-        );
+        targets::add_numbered(lent, targets, k, w, out);
     }
 }

@@ -1,4 +1,5 @@
 ghost use Rattle.std.specs.Prelude.{◌+◌};
+ghost use Rattle.borrowed.specs.Attributes.{positions_in, normals_in, tangents_in, SameSlices};
 ghost use Rattle.borrowed.specs.InPlace.{InPlace};
 ghost use Rattle.model.specs.Lists.{rows_in};
 ghost use Rattle.model.specs.Vector.{◌⊙◌, ◌⊞◌};
@@ -10,8 +11,9 @@ ghost use Rattle.deltas.specs.Deltas.{lent_in, deltas_in};
 ghost use Rattle.mesh.specs.Added.{Adds};
 
 use crate::blending::add_stations;
+use borrowed::Vertices;
 use deltas::{add_scaled, add_tangents, deltas_in, has_valid, target_at};
-use tables::{Header, TargetRow};
+use tables::{Lent, TargetRow};
 use tracks::Part;
 
 // Adds w times the deltas of a target to positions and normals.
@@ -25,46 +27,31 @@ fn add_plain(floats: &[f32], row: TargetRow, w: f32, positions: &mut [f32], norm
 
 // Adds a target at weight w: nothing at 0, by its stations if an in-between has a valid weight, else w times its
 // deltas. Tangents have no stations.
-fn add_target(
-    words: &[u32],
-    floats: &[f32],
-    h: Header,
-    row: TargetRow,
-    w: f32,
-    positions: &mut [f32],
-    normals: &mut [f32],
-    tangents: &mut [f32],
-)
-    ensures { InPlace (λ v. shape_of (with_target v
-        (target_of (lent_in words.now floats.now h) row) w)) positions normals tangents }
+fn add_target(lent: Lent, row: TargetRow, w: f32, out: &mut Vertices<'_>)
+    ensures moved { InPlace (λ v. shape_of (with_target v
+        (target_of (lent_in lent.entry.words.now lent.entry.floats.now lent.entry.header) row) w))
+        (positions_in out) (normals_in out) (tangents_in out) }
+    ensures same_slices { SameSlices out.old out.new }
 {
     if w == 0.0 {
         return;
     }
-    add_tangents(tangents, w, deltas_in(floats, row.tangents));
-    if has_valid(words, floats, h, row.in_betweens) {
-        add_stations(words, floats, h, row, w, positions, normals);
+    add_tangents(out.tangents, w, deltas_in(lent.floats, row.tangents));
+    if has_valid(lent, row.in_betweens) {
+        add_stations(lent, row, w, out.positions, out.normals);
         return;
     }
-    add_plain(floats, row, w, positions, normals);
+    add_plain(lent.floats, row, w, out.positions, out.normals);
 }
 
 // Adds target number k of a part at weight w.
-pub(crate) fn add_numbered(
-    words: &[u32],
-    floats: &[f32],
-    h: Header,
-    targets: Part,
-    k: usize,
-    w: f32,
-    positions: &mut [f32],
-    normals: &mut [f32],
-    tangents: &mut [f32],
-)
-    ensures { InPlace (λ v. shape_of (with_target v
-        (target_of (lent_in words.now floats.now h)
-        (target_row words.now h.meshes.targets (targets.at + k))) w)) positions normals tangents }
+pub(crate) fn add_numbered(lent: Lent, targets: Part, k: usize, w: f32, out: &mut Vertices<'_>)
+    ensures moved { InPlace (λ v. shape_of (with_target v
+        (target_of (lent_in lent.entry.words.now lent.entry.floats.now lent.entry.header)
+        (target_row lent.entry.words.now lent.entry.header.meshes.targets (targets.at + k))) w))
+        (positions_in out) (normals_in out) (tangents_in out) }
+    ensures same_slices { SameSlices out.old out.new }
 {
-    let row = target_at(words, h, targets, k);
-    add_target(words, floats, h, row, w, positions, normals, tangents);
+    let row = target_at(lent.words, lent.header, targets, k);
+    add_target(lent, row, w, out);
 }

@@ -2,6 +2,8 @@
 use mathlib.Core.Path.{◌≡◌, refl, sym, ◌∙◌}
 use mathlib.Core.Bool.{Bool, ◌||◌}
 use mathlib.Core.Option.{Option, none, some}
+use Rattle.std.specs.Prelude as rust
+use Rattle.std.specs.Option as held
 use Rattle.model.specs.Lists.{is_some, and_then}
 use Rattle.model.specs.Vector.{Vector}
 use Rattle.model.specs.Scene.{Property, translation, rotation, scale, morph_weights, Kind}
@@ -9,7 +11,6 @@ use Rattle.model.specs.Pose.{Pose, at_rest, given, replaced}
 use Rattle.pose_slots.specs.declared.Gift.{Gift}
 use Rattle.pose_slots.specs.declared.Gift.TheVariants as gift
 use Rattle.pose_slots.specs.Gifts.{bare, received, brings_weights, Gives}
-use Rattle.passed_over.specs.Passed.{is_something}
 
 -- some part of a pose is there, its weights aside
 abbrev some_part : Pose → Bool
@@ -27,14 +28,14 @@ by_value scale (some v) = refl
 by_value morph_weights none = refl
 by_value morph_weights (some v) = refl
 
-by-gift : (g : Gift) → (some_part (received g (bare at_rest)) || brings_weights g) ≡ is_something g
-by-gift (gift.Translation v) = refl
-by-gift (gift.Rotation q) = refl
-by-gift (gift.Scale v) = refl
-by-gift gift.Weights = refl
-by-gift gift.Nothing = refl
+by-gift : (g : rust.Option Gift) → (some_part (received g (bare at_rest)) || brings_weights g) ≡ held.is_some g
+by-gift (rust.Some (gift.Translation v)) = refl
+by-gift (rust.Some (gift.Rotation q)) = refl
+by-gift (rust.Some (gift.Scale v)) = refl
+by-gift (rust.Some gift.Weights) = refl
+by-gift rust.None = refl
 
-pub something-given : (g : Gift) (q : Property) (k : Kind) (v : Option Vector) → Gives g q k v
-    → is_some (and_then v (given q k)) ≡ is_something g
+pub something-given : (g : rust.Option Gift) (q : Property) (k : Kind) (v : Option Vector) → Gives g q k v
+    → is_some (and_then v (given q k)) ≡ held.is_some g
 something-given g q k v h =
     sym (by_value q (and_then v (given q k))) ∙ (λ j. some_part (h.pose at_rest j) || h.weights j) ∙ by-gift g

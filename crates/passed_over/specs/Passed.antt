@@ -1,12 +1,10 @@
 -- The first channel that a pose passes over. Definitions only.
-use Rattle.std.specs.Prelude.{◌≡◌, Bool, true, false, List, [], ◌∷◌, ℕ, suc, eqb, Float, drop}
+use Rattle.std.specs.Prelude.{◌≡◌, false, List, [], ◌∷◌, ℕ, suc, eqb, Float, drop}
 use Rattle.std.specs.Float.Ieee.{is_nan}
 use Rattle.model.specs.Lists.{pick}
 use Rattle.model.specs.Scene.{Track, node_count}
 use Rattle.tracks.specs.declared.Part.{Part}
 use Rattle.tables.specs.Decoded.{Lent, scene_of}
-use Rattle.pose_slots.specs.declared.Gift.{Gift}
-use Rattle.pose_slots.specs.declared.Gift.TheVariants as gift
 use Rattle.pose.specs.Lines.{NoneDrawn, AllInLine}
 use Rattle.pose.specs.Encoded.{pose_number_for, when_accepted}
 use Rattle.passed_over.specs.declared.PassedOver.{PassedOver}
@@ -39,11 +37,3 @@ passed_over_from l time from =
 abbrev pub Searchable : List ℕ → List Float → Part → ℕ → Float → Type 0
 Searchable words floats channels n time =
     NoneDrawn words floats channels × (is_nan time ≡ false) × AllInLine words floats channels n
-
--- whether a channel gives anything, by what the code holds
-abbrev pub is_something : Gift → Bool
-is_something (gift.Translation v) = true
-is_something (gift.Rotation q) = true
-is_something (gift.Scale v) = true
-is_something gift.Weights = true
-is_something gift.Nothing = false

@@ -1,7 +1,12 @@
 -- What the code's reasons say. Definitions only.
-use Rattle.std.specs.Prelude.{ℕ, Option, Some, None}
+use Rattle.std.specs.Prelude.{ℕ, Option, Some, None, Result, Ok, Err}
+use Rattle.refusals.specs.declared.Refusal.{Refusal}
+use Rattle.refusals.specs.Drawn.{number_of}
 use Rattle.passed_over.specs.Reasons as model
 use Rattle.passed_over.specs.declared.Reason.{Reason}
+use Rattle.passed_over.specs.declared.Passed.{Passed}
+use Rattle.passed_over.specs.declared.PassedOver.{PassedOver}
+use Rattle.passed_over.specs.Passed.{channel_told, no_channel}
 use Rattle.passed_over.specs.declared.Reason.TheVariants as code
 
 abbrev pub reason_of : Reason → model.Reason
@@ -18,3 +23,9 @@ code_of r = model.code (reason_of r)
 abbrev pub code_told : Option Reason → ℕ
 code_told (Some r) = code_of r
 code_told None = 0
+
+-- what C is told of an answer
+abbrev pub passed_told : Result (Option Passed) Refusal → PassedOver
+passed_told (Ok (Some p)) = channel_told (code_of p.reason) p.channel
+passed_told (Ok None) = no_channel 0
+passed_told (Err r) = no_channel (number_of r)

@@ -2,7 +2,9 @@
 #![tactic(auto)]
 
 ghost use Rattle.std.specs.Prelude.{◌≡◌};
-ghost use Rattle.passed_over.specs.Told.{code_of};
+ghost use Rattle.passed_over.specs.Told.{code_of, passed_told};
+
+use refusals::Refusal;
 
 mod calls;
 mod reasons;
@@ -38,4 +40,36 @@ pub struct PassedOver {
     pub number: u32,
     pub reason: u32,
     pub channel: usize,
+}
+
+// A channel that is passed over, and why.
+#[derive(Clone, Copy)]
+struct Passed {
+    reason: Reason,
+    channel: usize,
+}
+
+// What C is told of a channel that is passed over, of none, or of a pose that is refused.
+impl From<Result<Option<Passed>, Refusal>> for PassedOver {
+    ghost from_gives = { λ r p. p ≡ passed_told r };
+
+    fn from(r: Result<Option<Passed>, Refusal>) -> PassedOver {
+        match r {
+            Ok(Some(p)) => PassedOver {
+                number: 0,
+                reason: u32::from(p.reason),
+                channel: p.channel,
+            },
+            Ok(None) => PassedOver {
+                number: 0,
+                reason: 0,
+                channel: 0,
+            },
+            Err(e) => PassedOver {
+                number: u32::from(e),
+                reason: 0,
+                channel: 0,
+            },
+        }
+    }
 }

@@ -1,12 +1,13 @@
 -- The run in lent room: the stack, two words an entry, and what is written so far. Definitions only.
 use Rattle.std.specs.Prelude.{◌≡◌, List, [], ◌∷◌, ◌++◌, map, ℕ, zero, suc, ◌+◌, ◌-◌, ◌*◌, ◌≤◌, ◌<◌, eqb, length, get_or, set, replicate}
 use Rattle.std.proofs.Math.Seq.{paste}
-use Rattle.borrowed.specs.Slices.{Words, Change, change}
+use Rattle.borrowed.specs.Slices.{Change}
 use Rattle.model.specs.Limits.{node_limit}
 use Rattle.model.specs.Lists.{pick}
 use Rattle.model.specs.Scene.{Scene, Node, node_count, children_at}
 use Rattle.placing.specs.declared.Run.{Run}
 use Rattle.placing.specs.declared.Heights.{Heights}
+use Rattle.placing.specs.declared.Walk.{Walk}
 use Rattle.placing.specs.Walk.{Wiped}
 
 -- an entry to take: an id, and the code of the place that it is listed for
@@ -111,26 +112,45 @@ pub record Started (s : Scene) (codes room : Change (List ℕ)) (top : ℕ) : Ty
 abbrev pub Stepped : Scene → List ℕ → ℕ → Marks → State → Type 0
 Stepped s walk top m after = take_one (children_at s) (item_at walk (top - 1)) (stack_of walk (top - 1)) m ≡ after
 
--- what is written in two slices when a call begins, and when it ends
-abbrev pub marks_before : Words → Words → ℕ → Marks
-marks_before places order placed = record { places = places.entry.now; order = order.entry.now; placed = placed }
+-- what is written in the slices of a walk
+abbrev pub marks_in : Walk → ℕ → Marks
+marks_in walk placed = record { places = walk.places.now; order = walk.order.now; placed = placed }
 
-abbrev pub marks_after : Words → Words → ℕ → Marks
-marks_after places order placed = record { places = places.exit.now; order = order.exit.now; placed = placed }
+-- the slices of a walk are those that they were
+pub record SameSlices (old new : Walk) : Type 0 where
+  pub stack : new.stack.ghost_name ≡ old.stack.ghost_name
+  pub places : new.places.ghost_name ≡ old.places.ghost_name
+  pub order : new.order.ghost_name ≡ old.order.ghost_name
 
--- a step in the slices that it borrows
-abbrev pub StepsIn : Scene → Words → Words → Words → Heights → Heights → Type 0
-StepsIn s walk places order h after =
-    Stepped s walk.entry.now h.top (marks_before places order h.placed)
-    (record { stack = stack_of walk.exit.now after.top; marks = marks_after places order after.placed })
+-- and as long as they were
+pub record SameLengths (old new : Walk) : Type 0 where
+  pub stack : length new.stack.now ≡ length old.stack.now
+  pub places : length new.places.now ≡ length old.places.now
+  pub order : length new.order.now ≡ length old.order.now
+
+-- what becomes of each slice
+abbrev pub stack_change : Walk → Walk → Change (List ℕ)
+stack_change old new = record { from = old.stack.now; to = new.stack.now }
+
+abbrev pub places_change : Walk → Walk → Change (List ℕ)
+places_change old new = record { from = old.places.now; to = new.places.now }
+
+abbrev pub order_change : Walk → Walk → Change (List ℕ)
+order_change old new = record { from = old.order.now; to = new.order.now }
+
+-- a step in the slices of a walk
+abbrev pub Steps : Scene → Walk → Walk → Heights → Heights → Type 0
+Steps s old new h after =
+    Stepped s old.stack.now h.top (marks_in old h.placed)
+    (record { stack = stack_of new.stack.now after.top; marks = marks_in new after.placed })
 
 -- what is left where the stack is empty: the walk room wiped, and what is written
 pub record Drained (s : Scene) (room : Change (List ℕ)) (top : ℕ) (m : Marks) (after : Ended) : Type 0 where
   pub walk : Wiped room
   pub ended : drained (pending s top m.places) (children_at s) (stack_of room.from top) m 0 ≡ after
 
--- in the slices that are borrowed, where no node is placed before
-abbrev pub DrainsIn : Scene → Words → Words → Words → ℕ → Run → Type 0
-DrainsIn s walk places order top run =
-    Drained s (change walk) top (marks_before places order 0)
-    (record { marks = marks_after places order run.placed; taken = run.taken })
+-- in the slices of a walk, where no node is placed before
+abbrev pub Drains : Scene → Walk → Walk → ℕ → Run → Type 0
+Drains s old new top run =
+    Drained s (stack_change old new) top (marks_in old 0)
+    (record { marks = marks_in new run.placed; taken = run.taken })

@@ -8,7 +8,8 @@ ghost use Rattle.borrowed.specs.Slices.{change};
 ghost use Rattle.model.specs.Limits.{node_limit};
 ghost use Rattle.tables.specs.Decoded.{children_in};
 ghost use Rattle.placing.specs.Walk.{roots_in, listing_in, entries_of, Wiped, Walked};
-ghost use Rattle.placing.specs.WalkRoom.{Named, stack_of, Ready, Pushed, Started, StepsIn, DrainsIn};
+ghost use Rattle.placing.specs.WalkRoom.{Named, stack_of, Ready, Pushed, Started, Steps, Drains};
+ghost use Rattle.placing.specs.WalkRoom.{SameSlices, SameLengths, stack_change, places_change, order_change};
 
 use refusals::NODE_LIMIT;
 use tables::Graph;
@@ -27,17 +28,29 @@ struct Heights {
     placed: usize,
 }
 
+// The listing: the tables of the nodes and the roots.
+#[derive(Clone, Copy)]
+struct Listing<'a> {
+    words: &'a [u32],
+    graph: Graph,
+}
+
+// What a walk writes: the stack of entries, the code of each node's place, and the placed nodes in order.
+#[derive(Drop)]
+struct Walk<'a> {
+    stack: &'a mut [u32],
+    places: &'a mut [u32],
+    order: &'a mut [u32],
+}
+
 // Pushes the ids of a list, the last first, all for one place. Returns the new top.
 fn push(list: &[u32], code: u32, walk: &mut [u32], top: usize) -> usize
     requires { 2 * (top + length list.now) ≤ length walk.old }
     ensures { Pushed list.now code (change walk) top result }
 {
-    let n = list.len();
     let mut at = top;
-    let mut i = 0;
-    while i < n {
-        i += 1;
-        walk[2 * at] = list[n - i];
+    for i in (0..list.len()).rev() {
+        walk[2 * at] = list[i];
         walk[2 * at + 1] = code;
         at += 1;
     }
@@ -45,36 +58,32 @@ fn push(list: &[u32], code: u32, walk: &mut [u32], top: usize) -> usize
 }
 
 // The child list of node i.
-fn children_of(words: &[u32], graph: Graph, i: usize) -> &[u32]
-    ensures { result.now ≡ children_in words.now graph.nodes i }
+fn children_of<'a>(l: Listing<'a>, i: usize) -> &'a [u32]
+    ensures { result.now ≡ children_in l.entry.words.now l.entry.graph.nodes i }
 {
-    let row = tables::node_row(words, graph.nodes, i);
-    tables::words_in(words, row.children, 1)
+    let row = tables::node_row(l.words, l.graph.nodes, i);
+    tables::words_in(l.words, row.children, 1)
 }
 
 // Takes the entry at the top: a node that is in range and not placed is placed, anything else is dropped.
-fn step(
-    words: &[u32],
-    graph: Graph,
-    walk: &mut [u32],
-    places: &mut [u32],
-    order: &mut [u32],
-    h: Heights,
-) -> Heights
-    requires ready { Ready (listing_in words.now graph) walk.old places.old order.old h.top h.placed }
+fn step(l: Listing<'_>, walk: &mut Walk<'_>, h: Heights) -> Heights
+    requires ready { Ready (listing_in l.words.now l.graph) walk.old.stack.now walk.old.places.now walk.old.order.now
+        h.top h.placed }
     requires top_nonzero { 0 < h.top }
-    ensures { StepsIn (listing_in words.now graph) walk places order h result }
+    ensures steps { Steps (listing_in l.entry.words.now l.entry.graph) walk.old walk.new h result }
+    ensures same_slices { SameSlices walk.old walk.new }
+    ensures same_lengths { SameLengths walk.old walk.new }
 {
     let t = h.top - 1;
     let n = h.placed;
-    let id = walk[2 * t];
-    let code = walk[2 * t + 1];
+    let id = walk.stack[2 * t];
+    let code = walk.stack[2 * t + 1];
     let i = id as usize;
-    if i < places.len() {
-        if places[i] == 0 {
-            places[i] = code;
-            order[n] = id;
-            let top = push(children_of(words, graph, i), id + 3, walk, t);
+    if i < walk.places.len() {
+        if walk.places[i] == 0 {
+            walk.places[i] = code;
+            walk.order[n] = id;
+            let top = push(children_of(l, i), id + 3, walk.stack, t);
             return Heights { top, placed: n + 1 };
         }
     }
@@ -90,26 +99,22 @@ fn finish(walk: &mut [u32], run: Run) -> Run
 }
 
 // Takes entries until the stack is empty, and wipes the room: a `while`, since the walk says how often.
-fn drain(
-    words: &[u32],
-    graph: Graph,
-    walk: &mut [u32],
-    places: &mut [u32],
-    order: &mut [u32],
-    top: usize,
-) -> Run
-    requires ready { Ready (listing_in words.now graph) walk.old places.old order.old top 0 }
-    requires named { Named (stack_of walk.old top) }
-    ensures { DrainsIn (listing_in words.now graph) walk places order top result }
+fn drain(l: Listing<'_>, walk: &mut Walk<'_>, top: usize) -> Run
+    requires ready { Ready (listing_in l.words.now l.graph) walk.old.stack.now walk.old.places.now walk.old.order.now
+        top 0 }
+    requires named { Named (stack_of walk.old.stack.now top) }
+    ensures drains { Drains (listing_in l.entry.words.now l.entry.graph) walk.old walk.new top result }
+    ensures same_slices { SameSlices walk.old walk.new }
+    ensures same_lengths { SameLengths walk.old walk.new }
 {
     let mut h = Heights { top, placed: 0 };
     let mut taken: usize = 0;
     while 0 < h.top {
-        h = step(words, graph, walk, places, order, h);
+        h = step(l, walk, h);
         taken += 1;
     }
     finish(
-        walk,
+        walk.stack,
         Run {
             taken,
             placed: h.placed,
@@ -118,33 +123,60 @@ fn drain(
 }
 
 // No node is placed, and the roots are on the stack. Returns its top.
-fn start(words: &[u32], graph: Graph, walk: &mut [u32], places: &mut [u32]) -> usize
-    requires { 2 * length (roots_in words.now graph) ≤ length walk.old }
-    ensures { Started (listing_in words.now graph) (change places) (change walk) result }
+fn start(l: Listing<'_>, walk: &mut Walk<'_>) -> usize
+    requires { 2 * length (roots_in l.words.now l.graph) ≤ length walk.old.stack.now }
+    ensures started { Started (listing_in l.entry.words.now l.entry.graph) (places_change walk.old walk.new)
+        (stack_change walk.old walk.new) result }
+    ensures same_slices { SameSlices walk.old walk.new }
+    ensures same_lengths { SameLengths walk.old walk.new }
+    ensures order { walk.new.order.now ≡ walk.old.order.now }
 {
-    places.fill(0);
-    push(tables::words_in(words, graph.roots, 1), 1, walk, 0)
+    walk.places.fill(0);
+    push(
+        tables::words_in(l.words, l.graph.roots, 1),
+        1,
+        walk.stack,
+        0,
+    )
 }
 
 // Places the nodes, where there are as many places as nodes.
-fn fill(words: &[u32], graph: Graph, walk: &mut [u32], places: &mut [u32], order: &mut [u32]) -> Run
-    requires count_value { graph.nodes.count ≡ length places.old }
-    requires count_le_node_limit { (graph.nodes.count ≤ node_limit) × (graph.nodes.count ≤ length order.old) }
-    requires graph_in_bounds { 2 * entries_of (listing_in words.now graph) ≤ length walk.old }
-    ensures { Walked (listing_in words.now graph) (change walk) (change places) (change order)
-        result.taken result.placed }
+fn fill(l: Listing<'_>, walk: &mut Walk<'_>) -> Run
+    requires count_value { l.graph.nodes.count ≡ length walk.old.places.now }
+    requires count_le_node_limit { (l.graph.nodes.count ≤ node_limit)
+        × (l.graph.nodes.count ≤ length walk.old.order.now) }
+    requires graph_in_bounds { 2 * entries_of (listing_in l.words.now l.graph) ≤ length walk.old.stack.now }
+    ensures walked { Walked (listing_in l.entry.words.now l.entry.graph) (stack_change walk.old walk.new)
+        (places_change walk.old walk.new) (order_change walk.old walk.new) result.taken result.placed }
+    ensures same_slices { SameSlices walk.old walk.new }
 {
-    if places.len() == 0 {
+    if walk.places.len() == 0 {
         return finish(
-            walk,
+            walk.stack,
             Run {
                 taken: 0,
                 placed: 0,
             },
         );
     }
-    let top = start(words, graph, walk, places);
-    drain(words, graph, walk, places, order, top)
+    let top = start(l, walk);
+    drain(l, walk, top)
+}
+
+// The same in three slices: what a part of a slice holds when a struct that borrows it ends, Rattle does not tell.
+fn lend(l: Listing<'_>, stack: &mut [u32], places: &mut [u32], order: &mut [u32]) -> Run
+    requires count_value { l.graph.nodes.count ≡ length places.old }
+    requires count_le_node_limit { (l.graph.nodes.count ≤ node_limit) × (l.graph.nodes.count ≤ length order.old) }
+    requires graph_in_bounds { 2 * entries_of (listing_in l.words.now l.graph) ≤ length stack.old }
+    ensures { Walked (listing_in l.entry.words.now l.entry.graph) (change stack) (change places) (change order)
+        result.taken result.placed }
+{
+    let mut walk = Walk {
+        stack,
+        places,
+        order,
+    };
+    fill(l, &mut walk)
 }
 
 // Places the nodes: the code of each node's place goes to `places`, the placed nodes in order to `order`. Then nothing
@@ -163,5 +195,5 @@ pub fn place(
         result.taken result.placed }
 {
     let n = graph.nodes.count;
-    fill(words, graph, walk, &mut places[..n], order)
+    lend(Listing { words, graph }, walk, &mut places[..n], order)
 }

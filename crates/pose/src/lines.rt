@@ -1,16 +1,14 @@
 ghost use Rattle.std.specs.Prelude.{◌≡◌, List, Float};
-ghost use Rattle.model.specs.Lists.{any_of};
 ghost use Rattle.model.specs.Refusals.{some_keys_out_of_line};
 ghost use Rattle.tracks.specs.Tracks.{table_number};
 ghost use Rattle.tables.specs.Tags.{track_for};
 ghost use Rattle.tables.specs.Decoded.{scene_of};
 ghost use Rattle.checks.specs.Drawn.{lent_as};
-ghost use Rattle.pose_slots.specs.Channels.{channel_in, channels_in};
+ghost use Rattle.pose_slots.specs.Channels.{channel_in};
 ghost use Rattle.pose.specs.Lines.{out_of_line, NoneDrawn};
 
 use refusals::{Refusal, WEIGHT_LIMIT};
-use tables::{ChannelRow, Header};
-use tracks::Part;
+use tables::{ChannelRow, Lent};
 
 // Whether a channel is an even track that is aimed at one of n nodes and has keys that are not in line.
 fn is_out_of_line(floats: &[f32], row: ChannelRow, n: usize) -> bool
@@ -24,26 +22,18 @@ fn is_out_of_line(floats: &[f32], row: ChannelRow, n: usize) -> bool
     false
 }
 
-// Whether there is such a channel.
-fn some_out_of_line(words: &[u32], floats: &[f32], channels: Part, n: usize) -> bool
-    requires { NoneDrawn words.now floats.now channels }
-    ensures { result ≡ any_of (out_of_line n) (channels_in words.now floats.now channels) }
+// Whether there is such a channel: a stage, for tables that draw no number.
+pub fn keys_out_of_line(lent: Lent) -> bool
+    requires { NoneDrawn lent.words.now lent.floats.now lent.header.channels }
+    ensures { (own mesh : List Float) → result ≡ some_keys_out_of_line
+        (scene_of (lent_as lent.entry.words.now lent.entry.floats.now own mesh lent.entry.header)) }
 {
-    let count = channels.count;
-    for k in 0..count {
-        if is_out_of_line(floats, tables::channel_row(words, channels, k), n) {
+    let channels = lent.header.channels;
+    let n = lent.header.graph.nodes.count;
+    for k in 0..channels.count {
+        if is_out_of_line(lent.floats, tables::channel_row(lent.words, channels, k), n) {
             return true;
         }
     }
     false
-}
-
-// Whether an even track that is aimed at a node has keys that are not in line: a stage, for tables that draw no number.
-pub fn keys_out_of_line(words: &[u32], floats: &[f32], h: Header) -> bool
-    requires { NoneDrawn words.now floats.now h.channels }
-    ensures { (own mesh : List Float) → result ≡ some_keys_out_of_line
-        (scene_of (lent_as words.now floats.now own mesh h)) }
-{
-    let graph = h.graph;
-    some_out_of_line(words, floats, h.channels, graph.nodes.count)
 }

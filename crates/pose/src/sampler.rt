@@ -8,13 +8,13 @@ ghost use Rattle.tables.specs.Tags.{track_for};
 ghost use Rattle.pose_slots.specs.Slots.{pose_of, room};
 ghost use Rattle.pose_slots.specs.Channels.{channel_in, channels_in};
 ghost use Rattle.pose_slots.specs.Gifts.{bare, brings_weights};
-ghost use Rattle.pose.specs.Lines.{out_of_line, Drivable};
+ghost use Rattle.tables.specs.Records.{channel_row};
+ghost use Rattle.pose.specs.Lines.{Drivable};
 ghost use Rattle.pose.specs.Encoded.{cleared_words, cleared_floats, Cleared, Encoded};
 ghost use Rattle.pose.specs.Encoded.{driven, driven_word, DrivenIn};
 
 use pose_slots::{Gift, NodePose, at_rest, gift_at, pose_at, receive, store_pose};
-use tables::ChannelRow;
-use tracks::Part;
+use tables::{ChannelRow, Lent};
 
 // What a slot holds.
 #[derive(Clone, Copy)]
@@ -24,17 +24,14 @@ struct Slot {
 }
 
 // The word for the weights after channel k.
-fn word_after(g: Gift, k: usize, word: u32) -> u32
+fn word_after(g: Option<Gift>, k: usize, word: u32) -> u32
     requires { k < channel_limit }
     ensures { result ≡ pick (brings_weights g) (k + 1) word }
 {
-    match g {
-        Gift::Translation(_) => word,
-        Gift::Rotation(_) => word,
-        Gift::Scale(_) => word,
-        Gift::Weights => (k + 1) as u32,
-        Gift::Nothing => word,
+    if matches!(g, Some(Gift::Weights)) {
+        return (k + 1) as u32;
     }
+    word
 }
 
 // The slot of the node that channel k is aimed at, after that channel.
@@ -63,52 +60,32 @@ fn slot_after(
 }
 
 // Channel k, which is passed over where it is aimed past the last node.
-fn drive(
-    floats: &[f32],
-    row: ChannelRow,
-    k: usize,
-    n: usize,
-    time: f32,
-    marks: &mut [u32],
-    slots: &mut [f32],
-)
-    requires { (table_number floats.now (track_for row) ≡ 0) × (is_nan time ≡ false)
-        × (out_of_line n (channel_in floats.now row) ≡ false) × (n ≤ room marks.old slots.old)
-        × (k < channel_limit) }
-    ensures { DrivenIn time n k (channel_in floats.now row) marks slots }
+fn drive(lent: Lent, k: usize, time: f32, marks: &mut [u32], slots: &mut [f32])
+    requires drivable { Drivable lent.words.now lent.floats.now lent.header.channels lent.header.graph.nodes.count time
+        marks.old slots.old }
+    requires in_table { k < lent.header.channels.count }
+    ensures { DrivenIn time lent.entry.header.graph.nodes.count k
+        (channel_in lent.entry.floats.now (channel_row lent.entry.words.now lent.entry.header.channels k)) marks slots }
 {
+    let row = tables::channel_row(lent.words, lent.header.channels, k);
     let i = row.target as usize;
-    if i < n {
-        let slot = slot_after(floats, row, k, time, marks, slots);
+    if i < lent.header.graph.nodes.count {
+        let slot = slot_after(lent.floats, row, k, time, marks, slots);
         store_pose(marks, slots, i, slot.pose, slot.word);
     }
 }
 
 // All channels, in order, from slots in which nothing is posed.
-pub(crate) fn drive_all(
-    words: &[u32],
-    floats: &[f32],
-    channels: Part,
-    n: usize,
-    time: f32,
-    marks: &mut [u32],
-    slots: &mut [f32],
-)
-    requires drivable { Drivable words.now floats.now channels n time marks.old slots.old }
-    requires marks_value { (marks.old ≡ cleared_words n marks.old) × (slots.old ≡ cleared_floats n slots.old) }
-    ensures { Encoded (channels_in words.now floats.now channels) time n marks slots }
+pub(crate) fn drive_all(lent: Lent, time: f32, marks: &mut [u32], slots: &mut [f32])
+    requires drivable { Drivable lent.words.now lent.floats.now lent.header.channels lent.header.graph.nodes.count time
+        marks.old slots.old }
+    requires marks_value { (marks.old ≡ cleared_words lent.header.graph.nodes.count marks.old)
+        × (slots.old ≡ cleared_floats lent.header.graph.nodes.count slots.old) }
+    ensures { Encoded (channels_in lent.entry.words.now lent.entry.floats.now lent.entry.header.channels) time
+        lent.entry.header.graph.nodes.count marks slots }
 {
-    let count = channels.count;
-    for k in 0..count {
-        drive(
-            floats,
-            tables::channel_row(words, channels, k),
-            k,
-            n,
-            time,
-            marks,
-            slots,
-        );
+    for k in 0..lent.header.channels.count {
+        drive(lent, k, time, marks, slots);
     }
 }
 

@@ -1,44 +1,47 @@
 -- The local transform where something is posed, and where nothing is. Assumes nothing.
-use mathlib.Core.Path.{◌≡◌, refl, sym, ap, ◌∙◌}
-use mathlib.Core.Bool.{Bool, true, false, ◌||◌, false≢true}
-use mathlib.Core.Option.{none}
-use Rattle.model.specs.Lists.{pick, or_else}
+use mathlib.Core.Path.{◌≡◌, refl, sym}
+use mathlib.Core.Bool.{true, false, ◌||◌, false≢true}
+use Rattle.std.proofs.Common.{Option, Some, None, is_some}
+use Rattle.std.specs.Option.{unwrap_or}
+use Rattle.model.specs.Lists.{or_else}
 use Rattle.model.specs.Vector.{Vector}
 use Rattle.model.specs.Transform.{Trs, Transform, parts, parts_of}
 use Rattle.model.specs.Pose.{Pose, posed_over, local_transform}
-use Rattle.pose_slots.specs.Slots.{when}
+use Rattle.scene.specs.declared.Vec3.{Vec3}
+use Rattle.scene.specs.declared.Quat.{Quat}
+use Rattle.scene.specs.Values.{vec3, quat}
+use Rattle.pose_slots.specs.declared.NodePose.{NodePose}
+use Rattle.pose_slots.specs.Slots.{posed, pose_of}
 
 -- a posed value, or else another
-pub or-when : (b : Bool) (v w : Vector) → pick b v w ≡ or_else (when b v) w
-or-when true v w = refl
-or-when false v w = refl
+pub or-other : {A : Type 0} (f : A → Vector) (o : Option A) (x : A) → f (unwrap_or o x) ≡ or_else (posed f o) (f x)
+or-other f (Some y) x = refl
+or-other f None x = refl
 
-abbrev overlaid : Pose → Trs → Transform
+abbrev pub overlaid : Pose → Trs → Transform
 overlaid p q = parts (record { translation = or_else p.translation q.translation; rotation = or_else p.rotation q.rotation; scale = or_else p.scale q.scale })
 
-module _ (x y z : Bool) (t r s : Vector) (base : Transform) where
-  abbrev posed : Pose
-  posed = record { translation = when x t; rotation = when y r; scale = when z s; weights = none }
-
-  pub some-posed : (q : Trs) → q ≡ parts_of base → (x || y || z) ≡ true
-      → parts (record { translation = pick x t q.translation; rotation = pick y r q.rotation; scale = pick z s q.scale }) ≡ local_transform posed base
+module _ (p : NodePose) (base : Transform) where
+  pub some-posed : ((is_some p.translation || is_some p.rotation) || is_some p.scale) ≡ true
+      → overlaid (pose_of p) (parts_of base) ≡ local_transform (pose_of p) base
   unfolding posed_over
-  some-posed q e h =
-      (λ j. parts (record { translation = or-when x t q.translation j; rotation = or-when y r q.rotation j; scale = or-when z s q.scale j }))
-      ∙ ap (overlaid posed) e ∙ sym (go x y z h)
+  some-posed h = sym (go p.translation p.rotation p.scale h)
     where
-      go : (a b c : Bool) → (a || b || c) ≡ true → posed_over posed (when a t) (when b r) (when c s) base ≡ overlaid posed (parts_of base)
-      go true b c h = refl
-      go false true c h = refl
-      go false false true h = refl
-      go false false false h = absurd (false≢true h)
+      go : (t : Option Vec3) (r : Option Quat) (s : Option Vec3) → ((is_some t || is_some r) || is_some s) ≡ true
+          → posed_over (pose_of p) (posed vec3 t) (posed quat r) (posed vec3 s) base ≡ overlaid (pose_of p) (parts_of base)
+      go (Some t) r s h = refl
+      go None (Some r) s h = refl
+      go None None (Some s) h = refl
+      go None None None h = absurd (false≢true h)
 
-  pub none-posed : (x || y || z) ≡ false → base ≡ local_transform posed base
+  pub none-posed : ((is_some p.translation || is_some p.rotation) || is_some p.scale) ≡ false
+      → base ≡ local_transform (pose_of p) base
   unfolding posed_over
-  none-posed h = go x y z h
+  none-posed h = go p.translation p.rotation p.scale h
     where
-      go : (a b c : Bool) → (a || b || c) ≡ false → base ≡ posed_over posed (when a t) (when b r) (when c s) base
-      go false false false h = refl
-      go true b c h = absurd (false≢true (sym h))
-      go false true c h = absurd (false≢true (sym h))
-      go false false true h = absurd (false≢true (sym h))
+      go : (t : Option Vec3) (r : Option Quat) (s : Option Vec3) → ((is_some t || is_some r) || is_some s) ≡ false
+          → base ≡ posed_over (pose_of p) (posed vec3 t) (posed quat r) (posed vec3 s) base
+      go None None None h = refl
+      go (Some t) r s h = absurd (false≢true (sym h))
+      go None (Some r) s h = absurd (false≢true (sym h))
+      go None None (Some s) h = absurd (false≢true (sym h))

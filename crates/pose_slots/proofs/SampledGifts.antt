@@ -7,6 +7,7 @@ use Prim.Native.Nat.{ℕ, suc}
 use native.Mathlib.Omega.{arith}
 use borrow.Author.Tests.{not-false}
 use lib.Dec.{ltb}
+use Rattle.std.specs.Prelude as rust
 use Rattle.std.proofs.Common.{Result, Ok, Err}
 use lib.Ieee.{Float, is_nan}
 use lib.ListN.{length}
@@ -159,7 +160,7 @@ module _ (floats : List Float) (row : ChannelRow) (time : Float) where
   unanswered lent m z number line n e =
       none-given tr time _ lent z number line (λ p. ap (short_for tr time) n ∙ few-weights floats (track_for row) z time p) m e
 
-  pub handed : (g : Gift) (q : Property) (k : Kind) (v : Option Vector) → Gives g q k v → q ≡ property_for row.property → tr.kind ≡ k → sample tr time ≡ v
+  pub handed : (g : rust.Option Gift) (q : Property) (k : Kind) (v : Option Vector) → Gives g q k v → q ≡ property_for row.property → tr.kind ≡ k → sample tr time ≡ v
       → Gives g (channel_in floats row).property (channel_in floats row).kind (sample (channel_in floats row) time)
   handed g q k v h a b c =
       subst (λ (o : Option Vector). Gives g (property_for row.property) tr.kind o) (sym (sample-driving _ _ tr time ∙ c))

@@ -2,6 +2,11 @@
 use mathlib.Core.Path.{◌≡◌, refl, sym, ap, ◌∙◌}
 use mathlib.Core.Bool.{Bool, true, false}
 use mathlib.Core.List.{List}
+use mathlib.Core.Option.{none}
+use Rattle.std.specs.Prelude as rust
+use Rattle.std.specs.Bool.{then_some}
+use Rattle.std.specs.Int.{from_bool}
+use Rattle.std.specs.Option as opt
 use Prim.Native.Nat.{ℕ, ◌+◌, ◌-◌, ◌*◌, ◌/◌, ◌≤◌, ◌<◌}
 use native.Mathlib.Numerals.{add-one}
 use native.Mathlib.Omega.{arith}
@@ -11,16 +16,31 @@ use lib.Ieee.{Float, nan}
 use lib.ListN.{length, get_or, set, take, drop, length-drop}
 use lib.Seq.{paste, paste-suc, length-take-le}
 use Rattle.model.specs.Lists.{pick, row, is_some}
-use Rattle.model.specs.Vector.{Vector}
+use Rattle.model.specs.Vector.{Vector, at}
 use Rattle.model.specs.Pose.{Pose, at_rest}
 use Rattle.model.proofs.ListLaws.{entries_from, by_entries}
 use Rattle.pose_slots.specs.declared.NodePose.{NodePose}
-use Rattle.pose_slots.specs.Slots.{when, pose_of, resting_pose, room, slot_from, pose_from, slot_pose, pose_in}
+use Rattle.scene.specs.Values.{vec3, quat}
+use Rattle.tables.specs.Tags.{is_marked}
+use Rattle.pose_slots.specs.Slots.{when, posed, mark_of, pose_of, resting_pose, room, slot_from, pose_from, slot_pose, pose_in}
+
+-- a value with its mark, as it is held and as it is told
+told-held : {A : Type 0} (f : A → Vector) (b : Bool) (x : A) → posed f (then_some b x) ≡ when b (f x)
+told-held f true x = refl
+told-held f false x = refl
 
 -- what four words and ten floats hold is what they say
 said : (four : List ℕ) (ten : List Float) → length ten ≡ 10 → pose_of (slot_from four ten) ≡ pose_from four ten
 unfolding entries_from
-said four ten h = sym (ap (pose_from four) (by_entries nan ten 10 h))
+said four ten h =
+    let there : ℕ → Bool = λ k. is_marked (get_or four k 0) in
+    (λ j. record {
+      translation = told-held vec3 (there 0) (record { x = at ten 0; y = at ten 1; z = at ten 2 }) j;
+      rotation = told-held quat (there 1) (record { x = at ten 3; y = at ten 4; z = at ten 5; w = at ten 6 }) j;
+      scale = told-held vec3 (there 2) (record { x = at ten 7; y = at ten 8; z = at ten 9 }) j;
+      weights = none;
+    })
+    ∙ sym (ap (pose_from four) (by_entries nan ten 10 h))
 
 module _ (marks : List ℕ) (slots : List Float) (i : ℕ) where
   abbrev held : Bool → NodePose
@@ -62,9 +82,9 @@ module _ (marks : List ℕ) (slots : List Float) (i : ℕ) where
 
 -- ---- what is put
 
-pub is-there : (b : Bool) (v : Vector) → b ≡ is_some (when b v)
-is-there true v = refl
-is-there false v = refl
+pub is-there : {A : Type 0} (f : A → Vector) (o : rust.Option A) → from_bool (opt.is_some o) ≡ mark_of (is_some (posed f o))
+is-there f (rust.Some x) = refl
+is-there f rust.None = refl
 
 -- one entry more of a list that is put
 pub one_more : {A : Type 0} (lent s : List A) (at : ℕ) (v : List A) (k : ℕ) (z : A) → s ≡ paste lent at v k → at + k < length lent → k < length v

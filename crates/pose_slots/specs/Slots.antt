@@ -1,5 +1,7 @@
 -- The pose of a node as the code holds it, and in lent slots: four words and ten floats a node. The weights are not
 -- held: the fourth word names the channel that gives them. Definitions only.
+use Rattle.std.specs.Prelude as rust
+use Rattle.std.specs.Bool.{then_some}
 use Rattle.std.specs.Prelude.{◌≡◌, Bool, true, false, List, [], ◌∷◌, ◌++◌, ℕ, ◌+◌, ◌*◌, ◌/◌, min, ltb, Float, length, get_or, take, replicate}
 use Rattle.std.proofs.Math.Option.{Option, none, some}
 use Rattle.std.proofs.Math.Seq.{paste}
@@ -16,28 +18,30 @@ use Rattle.pose_slots.specs.declared.NodePose.{NodePose}
 abbrev pub when : Bool → Vector → Option Vector
 when b v = pick b (some v) none
 
+-- a value of the code as the vector that it says
+abbrev pub posed : {A : Type 0} → (A → Vector) → rust.Option A → Option Vector
+posed f (rust.Some x) = some (f x)
+posed f rust.None = none
+
 abbrev pub pose_of : NodePose → Pose
 pose_of p = record {
-  translation = when p.has_translation (vec3 p.translation);
-  rotation = when p.has_rotation (quat p.rotation);
-  scale = when p.has_scale (vec3 p.scale);
+  translation = posed vec3 p.translation;
+  rotation = posed quat p.rotation;
+  scale = posed vec3 p.scale;
   weights = none;
 }
 
--- the pose of three marks and ten floats, which are held whatever the marks say
+-- the pose of three marks and ten floats
 abbrev pub holding : Bool → Bool → Bool → List Float → NodePose
 holding t r s ten = record {
-  has_translation = t;
-  translation = record { x = at ten 0; y = at ten 1; z = at ten 2 };
-  has_rotation = r;
-  rotation = record { x = at ten 3; y = at ten 4; z = at ten 5; w = at ten 6 };
-  has_scale = s;
-  scale = record { x = at ten 7; y = at ten 8; z = at ten 9 };
+  translation = then_some t (record { x = at ten 0; y = at ten 1; z = at ten 2 });
+  rotation = then_some r (record { x = at ten 3; y = at ten 4; z = at ten 5; w = at ten 6 });
+  scale = then_some s (record { x = at ten 7; y = at ten 8; z = at ten 9 });
 }
 
--- nothing is posed, and every float is 0
+-- nothing is posed
 abbrev pub resting_pose : NodePose
-resting_pose = holding false false false (replicate 10 zero32)
+resting_pose = record { translation = rust.None; rotation = rust.None; scale = rust.None }
 
 -- ---- slots
 

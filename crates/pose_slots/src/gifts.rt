@@ -23,58 +23,58 @@ fn length4(q: Quat) -> f32
 }
 
 // A rotation of length 1, where there is a length to divide by.
-fn rotation_of(q: Quat) -> Gift
+fn rotation_of(q: Quat) -> Option<Gift>
     ensures { Gives result rotation quats (some (quat q)) }
 {
     let len = length4(q);
     if float::is_finite(len) {
         if len > 0.0 {
-            return Gift::Rotation(Quat {
+            return Some(Gift::Rotation(Quat {
                 x: q.x / len,
                 y: q.y / len,
                 z: q.z / len,
                 w: q.w / len,
-            });
+            }));
         }
     }
-    Gift::Nothing
+    None
 }
 
-fn of_vec3(property: Property, v: Vec3) -> Gift
+fn of_vec3(property: Property, v: Vec3) -> Option<Gift>
     ensures { Gives result (property_of property) vec3s (some (vec3 v)) }
 {
     match property {
-        Property::Translation => Gift::Translation(v),
-        Property::Rotation => Gift::Nothing,
-        Property::Scale => Gift::Scale(v),
-        Property::MorphWeights => Gift::Nothing,
+        Property::Translation => Some(Gift::Translation(v)),
+        Property::Rotation => None,
+        Property::Scale => Some(Gift::Scale(v)),
+        Property::MorphWeights => None,
     }
 }
 
-fn of_quat(property: Property, q: Quat) -> Gift
+fn of_quat(property: Property, q: Quat) -> Option<Gift>
     ensures { Gives result (property_of property) quats (some (quat q)) }
 {
     match property {
-        Property::Translation => Gift::Nothing,
+        Property::Translation => None,
         Property::Rotation => rotation_of(q),
-        Property::Scale => Gift::Nothing,
-        Property::MorphWeights => Gift::Nothing,
+        Property::Scale => None,
+        Property::MorphWeights => None,
     }
 }
 
-fn of_scalars(property: Property) -> Gift
+fn of_scalars(property: Property) -> Option<Gift>
     ensures { (v : Vector) → Gives result (property_of property) scalars (some v) }
 {
     match property {
-        Property::Translation => Gift::Nothing,
-        Property::Rotation => Gift::Nothing,
-        Property::Scale => Gift::Nothing,
-        Property::MorphWeights => Gift::Weights,
+        Property::Translation => None,
+        Property::Rotation => None,
+        Property::Scale => None,
+        Property::MorphWeights => Some(Gift::Weights),
     }
 }
 
 // What a channel gives at a time. Its keys are in line where it is even.
-pub fn gift_at(floats: &[f32], row: ChannelRow, time: f32) -> Gift
+pub fn gift_at(floats: &[f32], row: ChannelRow, time: f32) -> Option<Gift>
     requires { (table_number floats.now (track_for row) ≡ 0) × (is_nan time ≡ false)
         × ((even (channel_in floats.now row) && not (in_line (channel_in floats.now row).keys)) ≡ false) }
     ensures { Gives result (channel_in floats.now row).property
@@ -85,30 +85,28 @@ pub fn gift_at(floats: &[f32], row: ChannelRow, time: f32) -> Gift
         Ok(SampledValue::Vec3(v)) => of_vec3(tables::property_of(row), v),
         Ok(SampledValue::Quat(q)) => of_quat(tables::property_of(row), q),
         Ok(SampledValue::Scalar(_)) => of_scalars(tables::property_of(row)),
-        Err(_) => Gift::Nothing,
+        Err(_) => None,
     }
 }
 
 // A pose with a gift in place.
-pub fn receive(p: NodePose, g: Gift) -> NodePose
+pub fn receive(p: NodePose, g: Option<Gift>) -> NodePose
     ensures { result ≡ with_gift g p }
 {
-    let mut r = p;
     match g {
-        Gift::Translation(v) => {
-            r.has_translation = true;
-            r.translation = v;
-        }
-        Gift::Rotation(q) => {
-            r.has_rotation = true;
-            r.rotation = q;
-        }
-        Gift::Scale(v) => {
-            r.has_scale = true;
-            r.scale = v;
-        }
-        Gift::Weights => {}
-        Gift::Nothing => {}
+        Some(Gift::Translation(v)) => NodePose {
+            translation: Some(v),
+            ..p
+        },
+        Some(Gift::Rotation(q)) => NodePose {
+            rotation: Some(q),
+            ..p
+        },
+        Some(Gift::Scale(v)) => NodePose {
+            scale: Some(v),
+            ..p
+        },
+        Some(Gift::Weights) => p,
+        None => p,
     }
-    r
 }

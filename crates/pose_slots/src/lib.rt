@@ -11,15 +11,12 @@ pub use gifts::{gift_at, receive};
 pub use overlay::local_transform;
 pub use slots::{at_rest, pose_at, store_pose};
 
-// What is posed of a node, with marks for what is there; its morph weights are not held.
+// What is posed of a node; its morph weights are not held.
 #[derive(Clone, Copy)]
 pub struct NodePose {
-    pub has_translation: bool,
-    pub translation: Vec3,
-    pub has_rotation: bool,
-    pub rotation: Quat,
-    pub has_scale: bool,
-    pub scale: Vec3,
+    pub translation: Option<Vec3>,
+    pub rotation: Option<Quat>,
+    pub scale: Option<Vec3>,
 }
 
 // What a channel gives the pose of its node. Weights stay where they are sampled.
@@ -29,5 +26,4 @@ pub enum Gift {
     Rotation(Quat),
     Scale(Vec3),
     Weights,
-    Nothing,
 }

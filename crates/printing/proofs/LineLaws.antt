@@ -1,11 +1,10 @@
 -- A line of items that is put together in an array, and vertices put line by line. Assumes nothing.
 use mathlib.Core.Path.{◌≡◌, refl, sym, ap, ◌∙◌}
 use mathlib.Core.List.{List, [], ◌∷◌, ◌++◌}
-use Prim.Native.Nat.{ℕ, suc, ◌+◌, ◌-◌, ◌*◌, ◌≤◌, ◌<◌}
-use native.Mathlib.Numerals.{add-one}
+use Prim.Native.Nat.{ℕ, ◌-◌, ◌*◌, ◌≤◌}
 use native.Mathlib.Omega.{arith}
 use lib.Ieee.{Float, binary32, to_bits}
-use lib.ListN.{length, get_or, take, drop, replicate, length-append, length-drop, drop_of_length-le}
+use lib.ListN.{length, get_or, take, drop, replicate, length-append, length-drop}
 use lib.Seq.{take_all}
 use Rattle.grammar.specs.Digits.{numbers, floats, digits_of}
 use Rattle.spelling.specs.Pushed.{Out, out_at, pushes}
@@ -38,9 +37,6 @@ item_of ds = 32 ∷ ds
 
 abbrev pub three_items : Float → Float → Float → List ℕ
 three_items x y z = item_of (bits_text x) ++ item_of (bits_text y) ++ item_of (bits_text z)
-
-pub vertex-line : (x y z : Float) → drop 1 (three_items x y z) ++ 10 ∷ [] ≡ vertex_text x y z
-vertex-line x y z = refl
 
 -- the item of a float with these bits
 abbrev bits : ℕ → List ℕ

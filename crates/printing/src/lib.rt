@@ -33,6 +33,7 @@ pub fn put_vertices(out: &mut [u8], positions: &[f32]) -> usize
 {
     let mut k = 0;
     let mut left = positions;
+    // A `while`, since it goes on from what was read, by its length.
     while let [x, y, z, behind @ ..] = left {
         k = put_vertex(out, k, *x, *y, *z);
         left = behind;

@@ -55,32 +55,6 @@ pub fn number<T: Drop>(answer: Result<T, Refusal>) -> u32
     }
 }
 
-pub const OUT_OF_TABLE: u32 = 1;
-
-pub const OVER_LIMIT: u32 = 2;
-
-pub const NO_TIME: u32 = 3;
-
-pub const UNEVEN_TRACK: u32 = 4;
-
-pub const KEYS_OUT_OF_LINE: u32 = 5;
-
-pub const SHORT_SCRATCH: u32 = 6;
-
-pub const NO_SUCH_NODE: u32 = 7;
-
-pub const UNPLACED_NODE: u32 = 8;
-
-pub const NO_PALETTE: u32 = 9;
-
-pub const SHORT_OUTPUT: u32 = 10;
-
-pub const NO_COMMON_ROOT: u32 = 11;
-
-pub const NO_SUCH_FRAME: u32 = 12;
-
-pub const BAD_FORM: u32 = 13;
-
 pub const NODE_LIMIT: usize = 1024;
 
 pub const ROOT_LIMIT: usize = 1024;

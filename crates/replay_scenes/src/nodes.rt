@@ -3,6 +3,7 @@ use crate::told;
 use lists::Fields;
 use scene_lists::Scene;
 use std::alloc::{AllocError, Global};
+use worlds::Room;
 
 pub fn replay_parents(
     alloc: Global,
@@ -10,30 +11,14 @@ pub fn replay_parents(
     fields: &mut Fields,
 ) -> Result<bool, AllocError> {
     let mut out = fields.words(alloc, 8)?;
-    let answer = graph::parents(
-        scene.words,
-        &scene.floats,
-        &scene.node_weights,
-        &scene.mesh_weights,
-        scene.header,
-        &mut out,
-    );
+    let answer = graph::parents(scene.lent(), &mut out);
     Ok(told::has_parents(fields, refusals::number(answer), &out))
 }
 
 pub fn replay_pose(alloc: Global, scene: &Scene, fields: &mut Fields) -> Result<bool, AllocError> {
     let mut marks = fields.words(alloc, 32)?;
     let mut slots = fields.floats(alloc, 80)?;
-    let answer = pose::sample_pose(
-        scene.words,
-        &scene.floats,
-        &scene.node_weights,
-        &scene.mesh_weights,
-        scene.header,
-        fields.float(),
-        &mut marks,
-        &mut slots,
-    );
+    let answer = pose::sample_pose(scene.lent(), fields.float(), &mut marks, &mut slots);
     Ok(told::has_pose(fields, refusals::number(answer), &marks, &slots))
 }
 
@@ -47,18 +32,12 @@ pub fn replay_places(
     let mut walk = fields.words(alloc, 64)?;
     let mut places = fields.words(alloc, 8)?;
     let mut worlds = fields.floats(alloc, 128)?;
-    let answer = worlds::posed_node_transforms(
-        scene.words,
-        &scene.floats,
-        &scene.node_weights,
-        &scene.mesh_weights,
-        scene.header,
-        &marks,
-        &slots,
-        &mut walk,
-        &mut places,
-        &mut worlds,
-    );
+    let mut room = Room {
+        walk: &mut walk,
+        places: &mut places,
+        worlds: &mut worlds,
+    };
+    let answer = worlds::posed_node_transforms(scene.lent(), &marks, &slots, &mut room);
     Ok(told::has_places(
         fields,
         refusals::number(answer),

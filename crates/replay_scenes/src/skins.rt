@@ -12,29 +12,12 @@ pub fn replay_palette(
     let places = fields.words(alloc, 8)?;
     let worlds = fields.floats(alloc, 128)?;
     let mut out = fields.floats(alloc, 64)?;
-    let answer = skin::joint_matrices_with(
-        scene.words,
-        &scene.floats,
-        &scene.node_weights,
-        &scene.mesh_weights,
-        scene.header,
-        fields.word(),
-        &places,
-        &worlds,
-        &mut out,
-    );
+    let answer = skin::joint_matrices_with(scene.lent(), fields.word(), &places, &worlds, &mut out);
     Ok(told::has_palette(fields, refusals::number(answer), answer.unwrap_or(0), &out))
 }
 
 pub fn replay_root(scene: &Scene, fields: &mut Fields) -> bool {
-    let answer = skin_roots::skin_root(
-        scene.words,
-        &scene.floats,
-        &scene.node_weights,
-        &scene.mesh_weights,
-        scene.header,
-        fields.word(),
-    );
+    let answer = skin_roots::skin_root(scene.lent(), fields.word());
     told::has_numbers(
         fields,
         refusals::number(answer),
@@ -44,21 +27,7 @@ pub fn replay_root(scene: &Scene, fields: &mut Fields) -> bool {
 
 pub fn replay_weights(scene: &Scene, fields: &mut Fields) -> bool {
     let node = fields.word();
-    let answer = skin::check_weights(
-        scene.words,
-        &scene.floats,
-        &scene.node_weights,
-        &scene.mesh_weights,
-        scene.header,
-        node,
-    );
-    let weights = skin::effective_morph_weights(
-        scene.words,
-        &scene.floats,
-        &scene.node_weights,
-        &scene.mesh_weights,
-        scene.header,
-        node,
-    );
+    let answer = skin::check_weights(scene.lent(), node);
+    let weights = skin::effective_morph_weights(scene.lent(), node);
     told::has_weights(fields, refusals::number(answer), weights)
 }

@@ -37,6 +37,7 @@ pub fn has_pose(fields: &mut Fields, number: u32, marks: &[u32], slots: &[f32]) 
     has_number(fields, number) & fields.has_words(marks, 32) & fields.has_floats(slots, 80)
 }
 
+// Each list by itself, as it stands in the fields; so below.
 pub fn has_places(
     fields: &mut Fields,
     number: u32,

@@ -1,26 +1,37 @@
 // The calls on vertices in flat lists, of up to 64 floats each.
 use crate::told;
+use borrowed::Vertices;
 use lists::Fields;
 use scene::Mat4;
 use scene_lists::Scene;
 use std::alloc::{AllocError, Global};
 use tracks::Part;
+use vertex_rows::Influences;
 
 // The vertices that a call moves.
 #[derive(Drop)]
-struct Vertices {
+struct Lists {
     positions: Vec<f32>,
     normals: Vec<f32>,
     tangents: Vec<f32>,
 }
 
-impl Vertices {
+impl Lists {
     fn read(alloc: Global, fields: &mut Fields) -> Result<Self, AllocError> {
-        Ok(Vertices {
+        Ok(Lists {
             positions: fields.floats(alloc, 64)?,
             normals: fields.floats(alloc, 64)?,
             tangents: fields.floats(alloc, 64)?,
         })
+    }
+
+    // The lists, lent to a call that changes them.
+    fn lent(&mut self) -> Vertices<'_> {
+        Vertices {
+            positions: &mut self.positions,
+            normals: &mut self.normals,
+            tangents: &mut self.tangents,
+        }
     }
 
     // Whether they are the next three lists.
@@ -39,29 +50,22 @@ fn matrix(fields: &mut Fields) -> Mat4 {
 }
 
 pub fn replay_transformed(alloc: Global, fields: &mut Fields) -> Result<bool, AllocError> {
-    let mut v = Vertices::read(alloc, fields)?;
-    transform::transformed(
-        matrix(fields),
-        &mut v.positions,
-        &mut v.normals,
-        &mut v.tangents,
-    );
+    let mut v = Lists::read(alloc, fields)?;
+    transform::transformed(matrix(fields), &mut v.lent());
     Ok(v.are_told(fields))
 }
 
 pub fn replay_skinned(alloc: Global, fields: &mut Fields) -> Result<bool, AllocError> {
-    let mut v = Vertices::read(alloc, fields)?;
+    let mut v = Lists::read(alloc, fields)?;
     let palette = fields.floats(alloc, 96)?;
     let joints = fields.list(64);
     let weights = fields.floats(alloc, 64)?;
-    skinning::skinned(
-        &palette,
+    let by = Influences {
+        palette: &palette,
         joints,
-        &weights,
-        &mut v.positions,
-        &mut v.normals,
-        &mut v.tangents,
-    );
+        weights: &weights,
+    };
+    skinning::skinned(by, &mut v.lent());
     Ok(v.are_told(fields))
 }
 
@@ -70,19 +74,11 @@ pub fn replay_morphed(
     scene: &Scene,
     fields: &mut Fields,
 ) -> Result<bool, AllocError> {
-    let mut v = Vertices::read(alloc, fields)?;
+    let mut v = Lists::read(alloc, fields)?;
     let at = fields.number();
     let count = fields.number();
+    let targets = Part { at, count };
     let weights = fields.floats(alloc, 16)?;
-    mesh::morphed(
-        scene.words,
-        &scene.floats,
-        scene.header,
-        Part { at, count },
-        &weights,
-        &mut v.positions,
-        &mut v.normals,
-        &mut v.tangents,
-    );
+    mesh::morphed(scene.lent(), targets, &weights, &mut v.lent());
     Ok(v.are_told(fields))
 }

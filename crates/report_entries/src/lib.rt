@@ -9,7 +9,7 @@ ghost use Rattle.passed_over.specs.Passed.{passed_over_from};
 
 use faults::Fault;
 use passed_over::PassedOver;
-use tables::Header;
+use tables::{Header, Lent};
 
 // The number of the tables, and the first table, record and word that draws it.
 #[unsafe(no_mangle)]
@@ -22,7 +22,13 @@ pub extern "C" fn mesh3d_find_fault(
 ) -> Fault
     ensures { result ≡ fault_of (scene_lent words floats node_weights mesh_weights header) }
 {
-    faults::scene_fault(words, floats, node_weights, mesh_weights, header)
+    faults::scene_fault(Lent {
+        words,
+        floats,
+        node_weights,
+        mesh_weights,
+        header,
+    })
 }
 
 // The first channel, from the channel `from` on, that a pose at a time passes over, and why. Answers 1, 2, 3, 5 or 0.
@@ -38,13 +44,12 @@ pub extern "C" fn mesh3d_find_passed_over(
 ) -> PassedOver
     ensures { result ≡ passed_over_from (scene_lent words floats node_weights mesh_weights header) time from }
 {
-    passed_over::first_passed_over(
+    let lent = Lent {
         words,
         floats,
         node_weights,
         mesh_weights,
         header,
-        time,
-        from,
-    )
+    };
+    passed_over::first_passed_over(lent, time, from)
 }

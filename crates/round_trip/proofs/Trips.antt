@@ -33,8 +33,9 @@ use Rattle.scene_round.proofs.Drawn.{sound-kept}
 use Rattle.scene_round.proofs.Kept.{document-kept}
 use Rattle.scene_round.proofs.Tables.{Short}
 use Rattle.scene_text.specs.declared.Reading.{Reading}
-use Rattle.scene_text.specs.Scanned.{room_in}
-use Rattle.scene_text.specs.Reading.{read, Lengths, lengths_of, needed_by, is_short, read_number, SceneRead, laid_in}
+use Rattle.scene_text.specs.declared.Lengths.{Lengths}
+use Rattle.scene_text.specs.Scanned.{room_in, is_short}
+use Rattle.scene_text.specs.Reading.{read, lengths_of, needed_by, read_number, SceneRead, laid_in}
 use Rattle.scene_text.specs.Reading.{accepted_as, refused_by}
 use Rattle.scene_writing.specs.declared.Written.{Written}
 use Rattle.scene_writing.specs.Writing.{scene_text, write_number, SceneWritten}

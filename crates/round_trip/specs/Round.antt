@@ -7,7 +7,8 @@ use Rattle.checks.specs.Drawn.{lent_as, tables_number}
 use Rattle.scene_forms.specs.Read.{Slices}
 use Rattle.scene_spelling.specs.Written.{document_of}
 use Rattle.scene_text.specs.declared.Reading.{Reading}
-use Rattle.scene_text.specs.Reading.{SceneRead, lengths_of, needed_by, is_short}
+use Rattle.scene_text.specs.Scanned.{is_short}
+use Rattle.scene_text.specs.Reading.{SceneRead, lengths_of, needed_by}
 use Rattle.scene_writing.specs.declared.Written.{Written}
 use Rattle.scene_writing.specs.Writing.{scene_text, SceneWritten}
 

@@ -10,7 +10,7 @@ pub use limits::{
     tags_known, target_within,
 };
 pub use places::{
-    in_between_fits, mesh_fits, node_fits, primitive_fits, skeleton_fits, target_fits,
+    base_floats, in_between_fits, mesh_fits, node_fits, primitive_fits, skeleton_fits, target_fits,
 };
 
 // The lengths of what parts may lie in: slices, and tables whose records are listed by others.

@@ -2,10 +2,9 @@
 -- Assumes nothing.
 use mathlib.Core.Path.{◌≡◌, refl, sym, ap, subst, ◌∙◌}
 use mathlib.Core.Bool.{Bool, true, false, ◌&&◌}
-use mathlib.Core.List.{List, [], ◌∷◌, ◌++◌, map, map-id, append-nil}
+use mathlib.Core.List.{List, [], ◌∷◌, ◌++◌, map, map-id}
 use mathlib.Core.Option.{none, some}
-use Prim.Native.Nat.{ℕ, zero, suc, ◌-◌, ◌/◌, ◌%◌, ◌+◌, ◌*◌, ◌≤◌, ◌<◌, min}
-use native.Mathlib.Nat.{min-eq_left, min-eq_right}
+use Prim.Native.Nat.{ℕ, suc, ◌+◌, ◌*◌, ◌≤◌, ◌<◌}
 use native.Mathlib.Numerals.{add-one}
 use native.Mathlib.Omega.{arith}
 use borrow.Author.Tests.{eq-eqb, ne_eqb}
@@ -26,13 +25,12 @@ use Rattle.brackets.specs.Met.{meet, meets, judge}
 use Rattle.brackets.specs.Read.{Passed, WordRead, ItemsRead, items_at}
 use Rattle.brackets.proofs.MeetingLaws.{meets-append}
 use Rattle.brackets.proofs.ReadingLaws.{stay, further}
-use Rattle.scene_schema.specs.declared.Name.{Name}
 use Rattle.scene_schema.specs.declared.Pool.{Pool}
 use Rattle.scene_schema.specs.declared.Rule.{Rule}
 use Rattle.scene_schema.specs.declared.Pool.TheVariants as pool
 use Rattle.scene_schema.specs.Schema.{no_slot, kind_at, slot_at}
-use Rattle.scene_schema.specs.Numbers.{slot_names, slot_rules, no_name, no_rule}
-use Rattle.scene_schema.specs.Numbers.{letters_in, letters_of, size_for, sort_of}
+use Rattle.scene_schema.specs.Numbers.{Named, slot_names, slot_rules, no_name, no_rule}
+use Rattle.scene_schema.specs.Numbers.{size_for, sort_of}
 use Rattle.scene_schema.proofs.Numbers.{SlotTold}
 use Rattle.scene_marks.specs.declared.Mark.{Mark}
 use Rattle.scene_marks.specs.Marks.{clear, no_mark, set_mark}
@@ -41,50 +39,9 @@ use Rattle.scene_forms.specs.declared.Spot.{Spot}
 use Rattle.scene_forms.specs.declared.Entry.{Entry}
 use Rattle.scene_forms.specs.Filled.{Tables, start_in, count_items, tables_as, store_items, put_items, Filled}
 use Rattle.scene_forms.specs.Filled.{mark_of, put_field, put_fields}
-use Rattle.scene_forms.specs.Read.{Slices, tables_at, SameLengths, ItemsPut, mark_for, behind_items, Within}
+use Rattle.scene_forms.specs.declared.Tables as code
+use Rattle.scene_forms.specs.Read.{Slices, SameSlices, tables_at, SameLengths, ItemsPut, mark_for, behind_items, Within}
 use Rattle.scene_forms.specs.Read.{filled_at, FieldRead, marked_at, FieldsRead}
-
--- ---- the letters of a name
-letters-on : (left v : ℕ) (text : List ℕ) (m : Met) → 0 < left
-    → meets text (letters_in (left - 1) (v / 256)) (meet text (v % 256) m) ≡ meets text (letters_in left v) m
-unfolding meets letters_in
-letters-on zero v text m h = absurd (omega arith)
-letters-on (suc n) v text m h =
-    let one : suc n - 1 ≡ n = omega arith in
-    ap (λ (k : ℕ). meets text (letters_in k (v / 256)) (meet text (v % 256) m)) one
-
--- what is still expected makes up what was expected
-pub record LettersGoing (text : List ℕ) (letters word : ℕ) (m n : Met) (left v : ℕ) : Type 0 where
-  pub still : meets text (letters_in left v) n ≡ meets text (letters_in letters word) m
-
-module _ {text : List ℕ} {letters word : ℕ} {m n : Met} {left v : ℕ}
-    (g : LettersGoing text letters word m n left v) where
-  pub letters-more : {next : Met} {less : ℕ} → 0 < left → less ≡ left - 1 → next ≡ meet text (v % 256) n
-      → LettersGoing text letters word m next less (v / 256)
-  letters-more h q p = record {
-    still = (λ j. meets text (letters_in (q j) (v / 256)) (p j)) ∙ letters-on left v text n h ∙ g.still;
-  }
-
-  pub letters-done : left ≤ 0 → n ≡ meets text (letters_in letters word) m
-  unfolding meets letters_in
-  letters-done h =
-      let none : left ≡ 0 = omega arith in
-      ap (λ (k : ℕ). meets text (letters_in k v) n) (sym none) ∙ g.still
-
-module _ (text : List ℕ) (m : Met) (name : Name) {n : Met} where
-  pub name-short : name.letters ≤ 8 → n ≡ meets text (letters_in name.letters name.low) m
-      → n ≡ meets text (letters_of name) m
-  unfolding letters_in
-  name-short h e =
-      let none : name.letters - 8 ≡ 0 = omega arith in
-      e ∙ sym (rw (none, append-nil, min-eq_left h))
-
-  pub name-long : {first : Met} → 8 < name.letters → first ≡ meets text (letters_in 8 name.low) m
-      → n ≡ meets text (letters_in (name.letters - 8) name.high) first → n ≡ meets text (letters_of name) m
-  name-long h e f =
-      let eight : 8 ≤ name.letters = omega arith in
-      let most : min name.letters 8 ≡ 8 = min-eq_right eight in
-      f ∙ sym (rw (most, meets-append, ← e))
 
 -- ---- the items of a field
 sets-out : {A : Type 0} (cells : List A) (k : ℕ) (xs : List A) → length cells ≤ k → sets cells k xs ≡ cells
@@ -152,6 +109,9 @@ module _ {text : List ℕ} {at : ℕ} {p : Pool} {c : Counts} {met : Met} {w : L
       → ItemsRead (of_bits binary32) floats text at c.mesh_weights met m left r
       → ItemsPut text at p c met (from-to w f n m w f n left) r
   mesh-weights-put e i = rw e (put-as i (ap (λ (l : List Float). tables_as w f n l) i.filled))
+
+pub same-more : (a b d : code.Tables) → SameSlices a b → SameSlices b d → SameSlices a d
+same-more a b d p q = (q.0 ∙ p.0, q.1 ∙ p.1, q.2 ∙ p.2, q.3 ∙ p.3)
 
 pub long-stays : (s : Slices) → SameLengths (record { from = s; to = s })
 long-stays s = record { words = refl; floats = refl; node_weights = refl; mesh_weights = refl }
@@ -236,9 +196,9 @@ module _ {text : List ℕ} (s : Spot) {a : ℕ} {w : Spelling}
       let inside = put.passed.inside (r.passed.inside (b.inside h.inside)) in
       omega (arith, start-low h p, b.forth, r.passed.forth, put.few)
 
-  module _ {k j : ℕ} (t : SlotTold k j) {name : Name} (en : name ≡ get_or slot_names (16 * k + j) no_name) where
+  module _ {k j : ℕ} (t : SlotTold k j) {name : Named} (en : name ≡ get_or slot_names (16 * k + j) no_name) where
     code_is : name.code ≡ code_of (slot_at k j).name
-    code_is = ap (λ (x : Name). x.code) en ∙ t.code
+    code_is = ap (λ (x : Named). x.code) en ∙ t.code
 
     pub field-missing : {l : Slices} {mark : Mark} → (w.value ≡ name.code → ⊥) → mark ≡ no_mark
         → FieldRead text k j s (record { from = l; to = l }) (record { spot = s; mark = mark })
@@ -256,7 +216,7 @@ module _ {text : List ℕ} (s : Spot) {a : ℕ} {w : Spelling}
 
     pub field-there : {rule : Rule} {spaced opened met : Met} {l : Change Slices} {i : Listed} {q : Spot} {mark : Mark}
         → w.value ≡ name.code → rule ≡ get_or slot_rules (16 * k + j) no_rule → spaced ≡ meet text 32 s.met
-        → opened ≡ meet text 40 spaced → met ≡ meets text (letters_of name) opened
+        → opened ≡ meet text 40 spaced → met ≡ meets text (name.letters) opened
         → ItemsPut text w.next rule.pool s.counts met l i → q ≡ behind_items text rule s i
         → mark ≡ mark_for rule.pool s.counts i → FieldRead text k j s l (record { spot = q; mark = mark })
     unfolding meets
@@ -268,11 +228,11 @@ module _ {text : List ℕ} (s : Spot) {a : ℕ} {w : Spelling}
         let xs : Sort → List ℕ = λ x. (items_at x text w.next).made in
         let sort = ap (λ (x : Rule). sort_of x.pool) er ∙ t.sort in
         let size = ap (λ (x : Rule). size_for x) er ∙ t.size in
-        let letters = ap (λ (x : Name). letters_of x) en ∙ t.letters in
+        let letters = ap (λ (x : Named). x.letters) en ∙ t.letters in
         let tail = items_text (sort_of p) (xs (sort_of p)) in
-        let upto : i.met ≡ meets text (32 ∷ 40 ∷ letters_of name ++ tail) s.met
-        = put.compared ∙ ap (meets text tail) (e₃ ∙ ap (meets text (letters_of name)) (e₂ ∙ ap (meet text 40) e₁))
-        ∙ sym (meets-append text (letters_of name) tail (meet text 40 (meet text 32 s.met))) in
+        let upto : i.met ≡ meets text (32 ∷ 40 ∷ name.letters ++ tail) s.met
+        = put.compared ∙ ap (meets text tail) (e₃ ∙ ap (meets text (name.letters)) (e₂ ∙ ap (meet text 40) e₁))
+        ∙ sym (meets-append text (name.letters) tail (meet text 40 (meet text 32 s.met))) in
         let passed = further b (further r.passed put.passed) in
         let rest =
         ap (λ (x : Sort). (items_at x text w.next).rest) sort ∙ ap (λ (g : Got Field). g.rest) same in
@@ -302,7 +262,7 @@ module _ {text : List ℕ} (s : Spot) {a : ℕ} {w : Spelling}
 -- ---- the fields one after the other
 
 -- what is still to be put makes up what was to be put
-pub record FieldsGoing (text : List ℕ) (k : ℕ) (p : Spot) (l : Change Slices) (marks : List ℕ) (q : Spot) (j : ℕ)
+pub record FieldsGoing (text : List ℕ) (k : ℕ) (p : Spot) (l : Change Slices) (marks : List Mark) (q : Spot) (j : ℕ)
     : Type 0 where
   pub marked : put_fields text k j (fields_in (length text) (drop j (kind_at k).slots) (drop q.next text)).made
       (marked_at l.to q marks)
@@ -324,9 +284,9 @@ fields-start k l h = record {
   long = long-stays l;
 }
 
-module _ {text : List ℕ} {k : ℕ} {p : Spot} {l : Change Slices} {marks : List ℕ} {q : Spot} {j : ℕ}
+module _ {text : List ℕ} {k : ℕ} {p : Spot} {l : Change Slices} {marks : List Mark} {q : Spot} {j : ℕ}
     (g : FieldsGoing text k p l marks q j) where
-  pub fields-more : {to : Slices} {next : List ℕ} {e : Entry} → j < length (kind_at k).slots
+  pub fields-more : {to : Slices} {next : List Mark} {e : Entry} → j < length (kind_at k).slots
       → FieldRead text k j q (record { from = l.to; to = to }) e → next ≡ set_mark marks j e.mark
       → FieldsGoing text k p (record { from = l.from; to = to }) next e.spot (j + 1)
   unfolding fields_in put_fields

@@ -5,7 +5,6 @@ use mathlib.Core.Bool.{Bool}
 use Prim.Native.Nat.{ℕ, zero, suc, ◌+◌, ◌-◌, ◌%◌, ◌≤◌, ◌<◌, max}
 use native.Mathlib.Omega.{arith}
 use borrow.Author.Tests.{eq-eqb, ne_eqb, lt-ltb, le-ltb}
-use lib.Ieee.{Float}
 use lib.ListN.{length, get_or, drop}
 use lib.Seq.{sets, drop-drop, length-sets}
 use Rattle.borrowed.specs.Slices.{Change}
@@ -17,8 +16,7 @@ use Rattle.brackets.specs.declared.Spelling.{Spelling}
 use Rattle.brackets.specs.Met.{meet, meets, judge}
 use Rattle.brackets.specs.Read.{Passed, WordRead}
 use Rattle.scene_schema.specs.Schema.{kind_at}
-use Rattle.scene_schema.specs.declared.Name.{Name}
-use Rattle.scene_schema.specs.Numbers.{titles, no_name, letters_of}
+use Rattle.scene_schema.specs.Numbers.{Named, titles, no_name}
 use Rattle.scene_marks.specs.declared.Mark.{Mark}
 use Rattle.scene_marks.specs.Marks.{clear, mark_at, row_of, stride_of, groups_of}
 use Rattle.scene_forms.specs.declared.Counts.{Counts}
@@ -34,10 +32,6 @@ use Rattle.scene_forms.specs.Read.{opened_at, closed_at, FormRead, forms_at, For
 use Rattle.scene_forms.proofs.FieldLaws.{long-stays, long-more}
 
 -- ---- slices
-
-abbrev pub slices_of : List ℕ → List Float → List Float → List Float → Slices
-slices_of words floats node_weights mesh_weights =
-    record { words = words; floats = floats; node_weights = node_weights; mesh_weights = mesh_weights }
 
 abbrev pub from-to : Slices → Slices → Change Slices
 from-to a b = record { from = a; to = b }
@@ -65,7 +59,7 @@ within_on w f i = record {
 
 -- its fields are put, then its record, and its end is passed
 pub form-put : {text : List ℕ} {k : ℕ} {p : Place} {a b : Slices} {s : Spot} {f : Row} {r : Place} (words : List ℕ)
-    → letters_of (get_or titles k no_name) ≡ (kind_at k).title → s ≡ opened_at text k p
+    → (get_or titles k no_name).letters ≡ (kind_at k).title → s ≡ opened_at text k p
     → FieldsRead text k s (from-to a b) f → words ≡ sets b.words p.rows (row_of k f.marks)
     → closed_at text k p f.spot f.marks r → FormRead text k p (from-to a (with_words b words)) r
 unfolding put_form
@@ -235,37 +229,30 @@ goes_on at n h = ap (λ (b : Bool). pick b (at + n) at) (sym (lt-ltb at farthest
 pub stands : (at n : ℕ) → farthest ≤ at → at ≡ ahead at n
 stands at n h = ap (λ (b : Bool). pick b (at + n) at) (sym (le-ltb at farthest h))
 
-pub no-list : (k : ℕ) → (k ≡ 3 → ⊥) → (k ≡ 4 → ⊥) → (k ≡ 5 → ⊥) → 15 ≡ list_slot k
-no-list k a b c =
-    let x = ne_eqb k 3 a in
-    let y = ne_eqb k 4 b in
-    let z = ne_eqb k 5 c in
-    λ i. pick (sym x i) 0 (pick (sym y i) 5 (pick (sym z i) 3 15))
-
-pub same-request : (k : ℕ) (marks : List ℕ) (r : Request) → (k ≡ 0 → ⊥) → r ≡ request_in k marks r
+pub same-request : (k : ℕ) (marks : List Mark) (r : Request) → (k ≡ 0 → ⊥) → r ≡ request_in k marks r
 same-request k marks r d = λ i. pick (sym (ne_eqb k 0 d) i) (request_in 0 marks r) r
 
-pub reach-told : (k : ℕ) (marks : List ℕ) {m : Mark} {j : ℕ} → j ≡ list_slot k → m ≡ mark_at marks j
+pub reach-told : (k : ℕ) (marks : List Mark) {m : Mark} {j : ℕ} → j ≡ list_slot k → m ≡ mark_at marks j
     → m.first % 0x1_0000_0000 + m.second % 0x1_0000_0000 ≡ reach_in k marks
 reach-told k marks e f =
     let g = f ∙ ap (mark_at marks) e in
     λ i. (g i).first % 0x1_0000_0000 + (g i).second % 0x1_0000_0000
 
-pub request-told : (k : ℕ) (marks : List ℕ) (r : Request) {a b d : Mark} → (k ≡ 0) → a ≡ mark_at marks 0
+pub request-told : (k : ℕ) (marks : List Mark) (r : Request) {a b d : Mark} → (k ≡ 0) → a ≡ mark_at marks 0
     → b ≡ mark_at marks 1 → d ≡ mark_at marks 2
     → record { node = a.first; time = b.first; roots_at = d.start; roots = d.count } ≡ request_in k marks r
 request-told k marks r z e f g =
     (λ i. record { node = (e i).first; time = (f i).first; roots_at = (g i).start; roots = (g i).count })
     ∙ ap (λ (t : Bool). pick t (request_in 0 marks r) r) (sym (eq-eqb k 0 z))
 
-pub opened-told : (text : List ℕ) (k : ℕ) (p : Place) {name : Name} {m n : Met} → name ≡ get_or titles k no_name
-    → m ≡ meet text 40 p.met → n ≡ meets text (letters_of name) m
+pub opened-told : (text : List ℕ) (k : ℕ) (p : Place) {name : Named} {m n : Met} → name ≡ get_or titles k no_name
+    → m ≡ meet text 40 p.met → n ≡ meets text (name.letters) m
     → record { next = p.next; counts = p.counts; met = n; shape = p.shape } ≡ opened_at text k p
 unfolding meets
 opened-told text k p e f g = λ i. record {
   next = p.next;
   counts = p.counts;
-  met = (g ∙ (λ j. meets text (letters_of (e j)) (f j))) i;
+  met = (g ∙ (λ j. meets text ((e j).letters) (f j))) i;
   shape = p.shape;
 }
 
@@ -278,7 +265,7 @@ two-passed {text} {at} p q = record {
   inside = λ h. q.inside (p.inside h);
 }
 
-pub closed-told : (text : List ℕ) (k : ℕ) (p : Place) (s : Spot) (marks : List ℕ) {a next n reach rows : ℕ}
+pub closed-told : (text : List ℕ) (k : ℕ) (p : Place) (s : Spot) (marks : List Mark) {a next n reach rows : ℕ}
     {m o shape : Met} {groups : Bool} {own : ℕ} {request : Request}
     → Passed text s.next a (drop 1 (drop s.next text)) → Passed text a next (drop 1 (drop a text))
     → m ≡ meet text 41 s.met → o ≡ meet text 10 m → groups ≡ groups_of k marks

@@ -2,10 +2,10 @@
 use mathlib.Core.Path.{◌≡◌, refl, sym, ap, ◌∙◌}
 use mathlib.Core.List.{List, [], ◌∷◌}
 use mathlib.Core.Option.{none, some}
-use Prim.Native.Nat.{ℕ, zero, suc, ◌+◌, ◌*◌, ◌≤◌, ◌<◌}
+use Prim.Native.Nat.{ℕ, zero, suc, ◌+◌, ◌≤◌, ◌<◌}
 use native.Mathlib.Omega.{arith}
-use lib.ListN.{length, get_or, take, set, replicate, length-set, length-replicate}
-use lib.Seq.{sets, length-sets, get_or-set_same, get_or-set_other}
+use lib.ListN.{length, get_or, take, replicate, length-set, length-replicate}
+use lib.Seq.{get_or-set_same, get_or-set_other}
 use Rattle.grammar.specs.Forms.{Field, Form}
 use Rattle.scene_schema.specs.declared.Pool.{Pool}
 use Rattle.scene_schema.specs.declared.Pool.TheVariants as pool
@@ -16,73 +16,24 @@ use Rattle.scene_forms.specs.Filled.{pool_of, count_items, Tables, put_items, Fi
 use Rattle.scene_forms.specs.Filled.{Marked, put_fields, opened}
 use Rattle.scene_forms.specs.Laid.{items_of, field_at, item_of, mark_in, count_field, count_fields, marks_from, marks_of}
 
--- ---- stores in a row
-
-module _ {A : Type 0} (d : A) where
-  sets-outside : (vs l : List A) (i n : ℕ) → ((o : ℕ) → o < length vs → n ≡ i + o → ⊥)
-      → get_or (sets l i vs) n d ≡ get_or l n d
-  sets-outside [] l i n out = refl
-  sets-outside (v ∷ vs) l i n out =
-      sets-outside vs (set l i v) (suc i) n (λ o h e. out (suc o) (omega arith) (omega arith))
-      ∙ get_or-set_other l i n v d (λ e. out 0 (omega arith) (omega arith))
-
-  sets-inside : (vs l : List A) (i n o : ℕ) → n ≡ i + o → o < length vs → i + length vs ≤ length l
-      → get_or (sets l i vs) n d ≡ get_or vs o d
-  sets-inside [] l i n o e h b = absurd (omega arith)
-  sets-inside (v ∷ vs) l i n zero e h b =
-      let here : n ≡ i = omega arith in
-      sets-outside vs (set l i v) (suc i) n (λ o h e. omega arith)
-      ∙ ap (λ (m : ℕ). get_or (set l i v) m d) here
-      ∙ get_or-set_same l i v d (omega arith)
-  sets-inside (v ∷ vs) l i n (suc o) e h b =
-      sets-inside vs (set l i v) (suc i) n o (omega arith) (omega arith) (omega (arith, length-set l i v))
-
 -- ---- one mark
 
-abbrev numbers_of : Mark → List ℕ
-numbers_of m = m.there ∷ m.start ∷ m.count ∷ m.first ∷ m.second ∷ []
+mark-same : (marks : List Mark) (j : ℕ) (m : Mark) → length marks ≡ 16 → j < 16
+    → mark_at (set_mark marks j m) j ≡ m
+mark-same marks j m h l = get_or-set_same marks j m no_mark (omega arith)
 
-mark-same : (marks : List ℕ) (j : ℕ) (m : Mark) → length marks ≡ 80 → j < 16 → mark_at (set_mark marks j m) j ≡ m
-mark-same marks j m h l =
-    let at : (n o : ℕ) → n ≡ 5 * j + o → o < 5 → get_or (set_mark marks j m) n 0 ≡ get_or (numbers_of m) o 0 =
-    λ n o e b. sets-inside 0 (numbers_of m) marks (5 * j) n o e b (omega arith) in
-    λ i. record {
-      there = at (5 * j) 0 (omega arith) (omega arith) i;
-      start = at (5 * j + 1) 1 refl (omega arith) i;
-      count = at (5 * j + 2) 2 refl (omega arith) i;
-      first = at (5 * j + 3) 3 refl (omega arith) i;
-      second = at (5 * j + 4) 4 refl (omega arith) i;
-    }
+mark-other : (marks : List Mark) (i j : ℕ) (m : Mark) → (i ≡ j → ⊥)
+    → mark_at (set_mark marks j m) i ≡ mark_at marks i
+mark-other marks i j m apart = get_or-set_other marks j i m no_mark (λ e. apart (omega arith))
 
-mark-other : (marks : List ℕ) (i j : ℕ) (m : Mark) → (i ≡ j → ⊥) → mark_at (set_mark marks j m) i ≡ mark_at marks i
-mark-other marks i j m apart =
-    let at : (n : ℕ) → 5 * i ≤ n → n < 5 * i + 5 → get_or (set_mark marks j m) n 0 ≡ get_or marks n 0 =
-    λ n l h. sets-outside 0 (numbers_of m) marks (5 * j) n (λ o b e. apart (omega arith)) in
-    λ t. record {
-      there = at (5 * i) (omega arith) (omega arith) t;
-      start = at (5 * i + 1) (omega arith) (omega arith) t;
-      count = at (5 * i + 2) (omega arith) (omega arith) t;
-      first = at (5 * i + 3) (omega arith) (omega arith) t;
-      second = at (5 * i + 4) (omega arith) (omega arith) t;
-    }
-
-zeros-at : (m i : ℕ) → ◌≡◌ {A = ℕ} (get_or (replicate m 0) i 0) 0
-zeros-at zero i = refl
-zeros-at (suc m) zero = refl
-zeros-at (suc m) (suc i) = zeros-at m i
-
-clear_at : (j : ℕ) → mark_at clear j ≡ no_mark
-clear_at j = λ t. record {
-  there = zeros-at 80 (5 * j) t;
-  start = zeros-at 80 (5 * j + 1) t;
-  count = zeros-at 80 (5 * j + 2) t;
-  first = zeros-at 80 (5 * j + 3) t;
-  second = zeros-at 80 (5 * j + 4) t;
-}
+none-at : (n i : ℕ) → get_or (replicate n no_mark) i no_mark ≡ no_mark
+none-at zero i = refl
+none-at (suc n) zero = refl
+none-at (suc n) (suc i) = none-at n i
 
 -- ---- the marks of a form
 
-marks-before : (k j : ℕ) (f : Form) (c : Counts) (marks : List ℕ) (i : ℕ) → i < j
+marks-before : (k j : ℕ) (f : Form) (c : Counts) (marks : List Mark) (i : ℕ) → i < j
     → mark_at (marks_from k j f c marks) i ≡ mark_at marks i
 unfolding marks_from
 marks-before k j [] c marks i h = refl
@@ -90,7 +41,7 @@ marks-before k j (x ∷ f) c marks i h =
     marks-before k (suc j) f (count_field k j x c) (set_mark marks j (mark_in k j x c)) i (omega arith)
     ∙ mark-other marks i j (mark_in k j x c) (λ e. omega arith)
 
-marks-from : (k j : ℕ) (f : Form) (c : Counts) (marks : List ℕ) → length marks ≡ 80 → j + length f ≤ 16
+marks-from : (k j : ℕ) (f : Form) (c : Counts) (marks : List Mark) → length marks ≡ 16 → j + length f ≤ 16
     → ((i : ℕ) → j ≤ i → mark_at marks i ≡ no_mark) → (o i : ℕ) → i ≡ j + o
     → mark_at (marks_from k j f c marks) i ≡ mark_in k i (get_or f o none) (count_fields k j (take o f) c)
 unfolding marks_from count_fields
@@ -105,14 +56,14 @@ marks-from k j (x ∷ f) c marks l h none_yet zero i e =
 marks-from k j (x ∷ f) c marks l h none_yet (suc o) i e =
     let m = mark_in k j x c in
     marks-from k (suc j) f (count_field k j x c) (set_mark marks j m)
-    (length-sets marks (5 * j) (numbers_of m) ∙ l) (omega arith)
+    (length-set marks j m ∙ l) (omega arith)
     (λ i h. mark-other marks i j m (λ e. omega arith) ∙ none_yet i (omega arith)) o i (omega arith)
 
 -- a field is marked at its slot, and no other slot is marked: `field_at` is none past the last field
 pub mark-laid : (k : ℕ) (f : Form) (c : Counts) (j : ℕ) → length f ≤ 16
     → mark_at (marks_of k f c) j ≡ mark_in k j (field_at f j) (count_fields k 0 (take j f) c)
 mark-laid k f c j h =
-    marks-from k 0 f c clear (length-replicate {A = ℕ} 80 0) (omega arith) (λ i l. clear_at i) j j (omega arith)
+    marks-from k 0 f c clear (length-replicate 16 no_mark) (omega arith) (λ i l. none-at 16 i) j j (omega arith)
 
 abbrev pub there_in : Field → ℕ
 there_in none = 0
@@ -175,10 +126,6 @@ module _ (text : List ℕ) (k : ℕ) where
       fields-marks (suc j) f _
       ∙ (λ t. marks_from k (suc j) f (field-counts j x s.filled t)
       (set_mark s.marks j (field-mark j x s.filled t)))
-
-  pub counts-laid : (f : Form) (s : Filled)
-      → (put_fields text k 0 f (opened text k s)).filled.tables.counts ≡ count_fields k 0 f s.tables.counts
-  counts-laid f s = fields-counts 0 f (opened text k s)
 
   pub marks-laid : (f : Form) (s : Filled)
       → (put_fields text k 0 f (opened text k s)).marks ≡ marks_of k f s.tables.counts

@@ -42,7 +42,7 @@ present-step n [] = omega (arith, present-none n)
 present-step n (none ∷ f) = omega arith
 present-step n (some xs ∷ f) = omega arith
 
-module _ (marks : List ℕ) (f : Form) (told : (j : ℕ) → (mark_at marks j).there ≡ there_in (field_at f j)) where
+module _ (marks : List Mark) (f : Form) (told : (j : ℕ) → (mark_at marks j).there ≡ there_in (field_at f j)) where
   present-told : (n j : ℕ) → present_from n j marks ≡ present_in n (drop j f)
   unfolding present_from present_in
   present-told zero j = refl

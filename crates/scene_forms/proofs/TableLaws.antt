@@ -15,6 +15,7 @@ use Rattle.model.specs.Lists.{pick}
 use Rattle.grammar.specs.Forms.{Field, Form, Document}
 use Rattle.scene_schema.specs.declared.Pool.{Pool}
 use Rattle.scene_schema.specs.declared.Pool.TheVariants as pool
+use Rattle.scene_marks.specs.declared.Mark.{Mark}
 use Rattle.scene_marks.specs.Marks.{set_mark, words_from, row_of, stride_of}
 use Rattle.scene_forms.specs.declared.Counts.{Counts}
 use Rattle.scene_forms.specs.Filled.{Tables, reals_of, pool_of, counts_as, count_items, put_items, Filled, mark_of}
@@ -177,12 +178,12 @@ pool-laid pool.MeshWeights xs t = items-laid (count-items pool.MeshWeights xs t.
 
 -- ---- a record
 
-words_long : (n k w : ℕ) (marks : List ℕ) → length (words_from n k w marks) ≡ n
+words_long : (n k w : ℕ) (marks : List Mark) → length (words_from n k w marks) ≡ n
 unfolding words_from
 words_long zero k w marks = refl
 words_long (suc n) k w marks = ap suc (words_long n k (w + 1) marks)
 
-pub row-long : (k : ℕ) (marks : List ℕ) → length (row_of k marks) ≡ stride_of k
+pub row-long : (k : ℕ) (marks : List Mark) → length (row_of k marks) ≡ stride_of k
 row-long k marks = words_long (stride_of k) k 0 marks
 
 ahead-near : (at n : ℕ) → at + n ≤ farthest → ahead at n ≡ at + n
@@ -192,7 +193,7 @@ ahead-near at n h = go (ltb at farthest) refl
     go true e = refl
     go false e = omega (arith, ltb-false at farthest e)
 
-row_laid : {items : Pool → List ℕ} {t u : Tables} {at : ℕ} (k : ℕ) {marks laid : List ℕ} → marks ≡ laid
+row_laid : {items : Pool → List ℕ} {t u : Tables} {at : ℕ} (k : ℕ) {marks laid : List Mark} → marks ≡ laid
     → Laid items [] t at u at → Laid items (row_of k laid) t at (put_row k at marks u) (ahead at (stride_of k))
 row_laid {at = at} k {laid = laid} e p =
     let long = row-long k laid in

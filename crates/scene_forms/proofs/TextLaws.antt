@@ -222,7 +222,7 @@ module _ (text : List ℕ) where
       let few = form-few 0 f (omega arith) h.0.0 in
       let roots = mark-told 0 f no_counts 2 few in
       kinds-request 0 d _
-      ∙ ap (λ (marks : List ℕ). request_in 0 marks w.read.request)
+      ∙ ap (λ (marks : List Mark). request_in 0 marks w.read.request)
       (marks-laid text 0 f w.read.filled ∙ ap (marks_of 0 f) z)
       ∙ (λ t. record {
         node = (mark-told 0 f no_counts 0 few t).first;

@@ -116,7 +116,7 @@ put_field text k j (some xs) s =
 
 -- the fields of a form from slot j on, and their marks
 pub record Marked : Type 0 where
-  pub marks : List ℕ
+  pub marks : List Mark
   pub filled : Filled
 
 unfoldable pub put_fields : List ℕ → ℕ → ℕ → Form → Marked → Marked
@@ -143,12 +143,12 @@ ahead at n = pick (ltb at farthest) (at + n) at
 abbrev pub list_slot : ℕ → ℕ
 list_slot k = pick (eqb k 3) 0 (pick (eqb k 4) 5 (pick (eqb k 5) 3 15))
 
-abbrev pub reach_in : ℕ → List ℕ → ℕ
+abbrev pub reach_in : ℕ → List Mark → ℕ
 reach_in k marks =
     let m = mark_at marks (list_slot k) in m.first % 0x1_0000_0000 + m.second % 0x1_0000_0000
 
 -- of the scene form: node, time, and where the roots are
-abbrev pub request_in : ℕ → List ℕ → Request → Request
+abbrev pub request_in : ℕ → List Mark → Request → Request
 request_in k marks r =
     pick (eqb k 0) (record {
       node = (mark_at marks 0).first;
@@ -157,7 +157,7 @@ request_in k marks r =
       roots = (mark_at marks 2).count;
     }) r
 
-abbrev pub put_row : ℕ → ℕ → List ℕ → Tables → Tables
+abbrev pub put_row : ℕ → ℕ → List Mark → Tables → Tables
 put_row k at marks t = record {
   words = sets t.words at (row_of k marks);
   floats = t.floats;

@@ -72,12 +72,12 @@ count_fields k j [] c = c
 count_fields k j (f ∷ fs) c = count_fields k (suc j) fs (count_field k j f c)
 
 -- the fields of a form in numbers
-unfoldable pub marks_from : ℕ → ℕ → Form → Counts → List ℕ → List ℕ
+unfoldable pub marks_from : ℕ → ℕ → Form → Counts → List Mark → List Mark
 marks_from k j [] c marks = marks
 marks_from k j (f ∷ fs) c marks =
     marks_from k (suc j) fs (count_field k j f c) (set_mark marks j (mark_in k j f c))
 
-abbrev pub marks_of : ℕ → Form → Counts → List ℕ
+abbrev pub marks_of : ℕ → Form → Counts → List Mark
 marks_of k f c = marks_from k 0 f c clear
 
 unfoldable pub forms_rows : ℕ → List Form → Counts → List ℕ

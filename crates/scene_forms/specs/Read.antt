@@ -12,7 +12,8 @@ use Rattle.brackets.specs.Read.{Passed, items_at}
 use Rattle.scene_schema.specs.declared.Pool.{Pool}
 use Rattle.scene_schema.specs.declared.Rule.{Rule}
 use Rattle.scene_schema.specs.Schema.{kinds, kind_at, slot_at}
-use Rattle.scene_schema.specs.Numbers.{titles, no_name, letters_of, sort_of, size_for}
+use Rattle.scene_schema.specs.Numbers.{titles, no_name, sort_of, size_for}
+use Rattle.scene_forms.specs.declared.Tables as code
 use Rattle.scene_forms.specs.declared.Counts.{Counts}
 use Rattle.scene_marks.specs.declared.Mark.{Mark}
 use Rattle.scene_forms.specs.declared.Spot.{Spot}
@@ -49,6 +50,25 @@ slices words floats node_weights mesh_weights = record {
     mesh_weights = mesh_weights.exit.now;
   };
 }
+
+-- what the four tables hold, before and after
+abbrev pub slices_in : code.Tables → Slices
+slices_in t = record {
+  words = t.words.now;
+  floats = t.floats.now;
+  node_weights = t.node_weights.now;
+  mesh_weights = t.mesh_weights.now;
+}
+
+abbrev pub changed : code.Tables → code.Tables → Change Slices
+changed old new = record { from = slices_in old; to = slices_in new }
+
+-- each is the slice that it was
+abbrev pub SameSlices : code.Tables → code.Tables → Type 0
+SameSlices old new =
+    (new.words.ghost_name ≡ old.words.ghost_name) × (new.floats.ghost_name ≡ old.floats.ghost_name)
+    × (new.node_weights.ghost_name ≡ old.node_weights.ghost_name)
+    × (new.mesh_weights.ghost_name ≡ old.mesh_weights.ghost_name)
 
 abbrev pub tables_at : Slices → Counts → Tables
 tables_at s c = tables_as s.words s.floats s.node_weights s.mesh_weights c
@@ -113,7 +133,7 @@ pub record FieldRead (text : List ℕ) (k j : ℕ) (s : Spot) (l : Change Slices
   pub within : Within text r.spot.next r.spot.counts
   pub long : SameLengths l
 
-abbrev pub marked_at : Slices → Spot → List ℕ → Marked
+abbrev pub marked_at : Slices → Spot → List Mark → Marked
 marked_at l s marks = record { marks = marks; filled = filled_at l s }
 
 -- the fields of a form, as they are made of the text from a place on: `fields_in` passes two bytes more
@@ -141,12 +161,12 @@ abbrev pub opened_at : List ℕ → ℕ → Place → Spot
 opened_at text k p = record {
   next = p.next;
   counts = p.counts;
-  met = meets text (40 ∷ letters_of (get_or titles k no_name)) p.met;
+  met = meets text (40 ∷ (get_or titles k no_name).letters) p.met;
   shape = p.shape;
 }
 
 -- where the fields end, two bytes are passed
-abbrev pub closed_at : List ℕ → ℕ → Place → Spot → List ℕ → Place → Type 0
+abbrev pub closed_at : List ℕ → ℕ → Place → Spot → List Mark → Place → Type 0
 closed_at text k p s marks r =
     Passed text s.next r.next (drop 2 (drop s.next text)) × (r ≡ record {
       next = r.next;

@@ -1,41 +1,16 @@
 // The fields of a form.
 ghost use Rattle.std.specs.Prelude.{◌≡◌, ◌+◌, ◌<◌, length};
 ghost use Rattle.scene_schema.specs.Schema.{kind_at};
-ghost use Rattle.scene_schema.specs.Numbers.{letters_in, letters_of, size_for};
-ghost use Rattle.brackets.specs.Met.{meets};
+ghost use Rattle.scene_schema.specs.Numbers.{size_for};
 ghost use Rattle.grammar.specs.Shape.{sized};
 ghost use Rattle.scene_forms.specs.Filled.{start_in, count_items};
-ghost use Rattle.scene_forms.specs.Read.{mark_for, behind_items, slices, ItemsPut, FieldRead, FieldsRead, Within};
+ghost use Rattle.scene_forms.specs.Read.{mark_for, behind_items, SameSlices, changed, ItemsPut, FieldRead};
+ghost use Rattle.scene_forms.specs.Read.{FieldsRead, Within};
 
-use crate::{Counts, Entry, Row, Spot};
+use crate::{Counts, Entry, Row, Spot, Tables};
 use brackets::{Listed, Met};
 use scene_marks::Mark;
-use scene_schema::{Name, Pool, Rule};
-
-// So many expected letters more, the first one lowest.
-fn meet_letters(text: &[u8], met: Met, letters: usize, word: u64) -> Met
-    ensures { result ≡ meets text.now (letters_in letters word) met }
-{
-    let mut m = met;
-    let mut v = word;
-    for _letter in 0..letters {
-        m = brackets::meet(text, m, (v % 256) as u8);
-        v /= 256;
-    }
-    m
-}
-
-// An expected title or name.
-pub fn meet_name(text: &[u8], met: Met, name: Name) -> Met
-    ensures { result ≡ meets text.now (letters_of name) met }
-{
-    let n = name.letters as usize;
-    if n <= 8 {
-        return meet_letters(text, met, n, name.low);
-    }
-    let m = meet_letters(text, met, 8, name.low);
-    meet_letters(text, m, n - 8, name.high)
-}
+use scene_schema::{Pool, Rule};
 
 // Whether so many items are as many as is asked.
 fn is_sized(rule: Rule, count: usize) -> bool
@@ -52,33 +27,35 @@ fn is_sized(rule: Rule, count: usize) -> bool
 }
 
 // The items of a field, put to their table.
-fn items(
-    text: &[u8],
-    at: usize,
-    pool: Pool,
-    c: Counts,
-    met: Met,
-    words: &mut [u32],
-    floats: &mut [f32],
-    node_weights: &mut [f32],
-    mesh_weights: &mut [f32],
-) -> Listed
-    ensures { ItemsPut text.now at pool c met
-        (slices words floats node_weights mesh_weights) result }
+fn items(text: &[u8], at: usize, pool: Pool, c: Counts, met: Met, tables: &mut Tables<'_>) -> Listed
+    ensures same { SameSlices tables.old tables.new }
+    ensures read { ItemsPut text.now at pool c met (changed tables.old tables.new) result }
 {
     match pool {
         Pool::Number => {
-            let end = words.len();
-            brackets::read_numbers(text, at, words, end, met)
+            let end = tables.words.len();
+            brackets::read_numbers(text, at, tables.words, end, met)
         }
         Pool::Bits => {
-            let end = floats.len();
-            brackets::read_floats(text, at, floats, end, met)
+            let end = tables.floats.len();
+            brackets::read_floats(text, at, tables.floats, end, met)
         }
-        Pool::Ids => brackets::read_numbers(text, at, words, c.ids, met),
-        Pool::Floats => brackets::read_floats(text, at, floats, c.floats, met),
-        Pool::NodeWeights => brackets::read_floats(text, at, node_weights, c.node_weights, met),
-        Pool::MeshWeights => brackets::read_floats(text, at, mesh_weights, c.mesh_weights, met),
+        Pool::Ids => brackets::read_numbers(text, at, tables.words, c.ids, met),
+        Pool::Floats => brackets::read_floats(text, at, tables.floats, c.floats, met),
+        Pool::NodeWeights => brackets::read_floats(
+            text,
+            at,
+            tables.node_weights,
+            c.node_weights,
+            met,
+        ),
+        Pool::MeshWeights => brackets::read_floats(
+            text,
+            at,
+            tables.mesh_weights,
+            c.mesh_weights,
+            met,
+        ),
     }
 }
 
@@ -153,19 +130,10 @@ fn behind_items(text: &[u8], rule: Rule, s: Spot, l: Listed) -> Spot
 }
 
 // Slot j of a form of kind k.
-fn field(
-    text: &[u8],
-    k: usize,
-    j: usize,
-    s: Spot,
-    words: &mut [u32],
-    floats: &mut [f32],
-    node_weights: &mut [f32],
-    mesh_weights: &mut [f32],
-) -> Entry
+fn field(text: &[u8], k: usize, j: usize, s: Spot, tables: &mut Tables<'_>) -> Entry
     requires { Within text.now s.next s.counts × (k < 9) × (j < length (kind_at k).slots) }
-    ensures { FieldRead text.now k j s
-        (slices words floats node_weights mesh_weights) result }
+    ensures same { SameSlices tables.old tables.new }
+    ensures read { FieldRead text.now k j s (changed tables.old tables.new) result }
 {
     let name = scene_schema::slot_name(16 * k + j);
     let w = brackets::name(text, brackets::behind(text, s.next));
@@ -177,21 +145,11 @@ fn field(
     }
     let met = s.met;
     let opened = brackets::meet(text, brackets::meet(text, met, 32), 40);
-    let named = meet_name(text, opened, name);
+    let named = brackets::meet_bytes(text, opened, name.letters);
     let rule = scene_schema::slot_rule(16 * k + j);
     let pool = rule.pool;
     let c = s.counts;
-    let l = items(
-        text,
-        w.next,
-        pool,
-        c,
-        named,
-        words,
-        floats,
-        node_weights,
-        mesh_weights,
-    );
+    let l = items(text, w.next, pool, c, named, tables);
     Entry {
         spot: behind_items(text, rule, s, l),
         mark: mark_of(pool, c, l),
@@ -218,24 +176,16 @@ fn renewed(s: Spot) -> Spot
 }
 
 // The fields of a form of kind k.
-pub fn fields(
-    text: &[u8],
-    k: usize,
-    s: Spot,
-    words: &mut [u32],
-    floats: &mut [f32],
-    node_weights: &mut [f32],
-    mesh_weights: &mut [f32],
-) -> Row
+pub fn fields(text: &[u8], k: usize, s: Spot, tables: &mut Tables<'_>) -> Row
     requires { Within text.now s.next s.counts × (k < 9) }
-    ensures { FieldsRead text.now k s
-        (slices words floats node_weights mesh_weights) result }
+    ensures same { SameSlices tables.old tables.new }
+    ensures read { FieldsRead text.now k s (changed tables.old tables.new) result }
 {
     let n = scene_schema::slots(k);
-    let mut marks = [0usize; 80];
+    let mut marks = [Mark::default(); 16];
     let mut q = s;
     for j in 0..n {
-        let e = field(text, k, j, q, words, floats, node_weights, mesh_weights);
+        let e = field(text, k, j, q, tables);
         let m = e.mark;
         scene_marks::set_mark(&mut marks, j, m);
         q = renewed(e.spot);

@@ -1,11 +1,12 @@
 // Forms, and all that is made of a text.
 ghost use Rattle.std.specs.Prelude.{◌≡◌, ◌<◌};
 ghost use Rattle.scene_forms.specs.Filled.{ahead, list_slot, reach_in, request_in};
-ghost use Rattle.scene_forms.specs.Read.{slices, Within, opened_at, closed_at, FormRead, FormsRead, start_at};
-ghost use Rattle.scene_forms.specs.Read.{DocumentRead};
+ghost use Rattle.scene_forms.specs.Read.{SameSlices, changed, Within, opened_at, closed_at, FormRead, FormsRead};
+ghost use Rattle.scene_forms.specs.Read.{start_at, DocumentRead};
 
-use crate::{Block, Counts, Found, Place, Request, Spot, fields};
+use crate::{Block, Counts, Found, Place, Request, Spot, Tables, fields};
 use brackets::Met;
+use scene_marks::Mark;
 
 // The place of the next record but so many words; it stands still once it is past the end of any slice.
 fn ahead(at: usize, n: usize) -> usize
@@ -22,20 +23,16 @@ fn ahead(at: usize, n: usize) -> usize
 fn list_slot(k: usize) -> usize
     ensures { result ≡ list_slot k }
 {
-    if k == 3 {
-        return 0;
+    match k {
+        3 => 0,
+        4 => 5,
+        5 => 3,
+        _ => 15,
     }
-    if k == 4 {
-        return 5;
-    }
-    if k == 5 {
-        return 3;
-    }
-    15
 }
 
 // How far the list of records of a form of kind k reaches.
-fn reach_in(k: usize, marks: &[usize; 80]) -> usize
+fn reach_in(k: usize, marks: &[Mark; 16]) -> usize
     ensures { result ≡ reach_in k marks.now }
 {
     let m = scene_marks::mark_at(marks, list_slot(k));
@@ -43,7 +40,7 @@ fn reach_in(k: usize, marks: &[usize; 80]) -> usize
 }
 
 // What the scene form asks for; other forms leave it as it is.
-fn request_in(k: usize, marks: &[usize; 80], r: Request) -> Request
+fn request_in(k: usize, marks: &[Mark; 16], r: Request) -> Request
     ensures { result ≡ request_in k marks.now r }
 {
     if k != 0 {
@@ -67,16 +64,17 @@ fn opened(text: &[u8], k: usize, p: Place) -> Spot
     let met = p.met;
     let counts = p.counts;
     let shape = p.shape;
+    let title = scene_schema::title(k);
     Spot {
         next: p.next,
         counts,
-        met: fields::meet_name(text, brackets::meet(text, met, 40), scene_schema::title(k)),
+        met: brackets::meet_bytes(text, brackets::meet(text, met, 40), title.letters),
         shape,
     }
 }
 
 // Behind the fields of a form: its groups are judged at the closing bracket; that and the line's end are compared.
-fn closed(text: &[u8], k: usize, p: Place, s: Spot, marks: &[usize; 80]) -> Place
+fn closed(text: &[u8], k: usize, p: Place, s: Spot, marks: &[Mark; 16]) -> Place
     requires { k < 9 }
     ensures { closed_at text.now k p s marks.now result }
 {
@@ -96,38 +94,24 @@ fn closed(text: &[u8], k: usize, p: Place, s: Spot, marks: &[usize; 80]) -> Plac
 }
 
 // A form of kind k, from behind its title on.
-fn form(
-    text: &[u8],
-    k: usize,
-    p: Place,
-    words: &mut [u32],
-    floats: &mut [f32],
-    node_weights: &mut [f32],
-    mesh_weights: &mut [f32],
-) -> Place
+fn form(text: &[u8], k: usize, p: Place, tables: &mut Tables<'_>) -> Place
     requires { Within text.now p.next p.counts × (k < 9) }
-    ensures { FormRead text.now k p (slices words floats node_weights mesh_weights) result }
+    ensures same { SameSlices tables.old tables.new }
+    ensures read { FormRead text.now k p (changed tables.old tables.new) result }
 {
     let s = opened(text, k, p);
-    let f = fields::fields(text, k, s, words, floats, node_weights, mesh_weights);
+    let f = fields::fields(text, k, s, tables);
     let marks = f.marks;
-    scene_marks::put_row(k, &marks, words, p.rows);
+    scene_marks::put_row(k, &marks, tables.words, p.rows);
     let end = f.spot;
     closed(text, k, p, end, &marks)
 }
 
 // The forms of kind k.
-fn forms_of(
-    text: &[u8],
-    k: usize,
-    p: Place,
-    words: &mut [u32],
-    floats: &mut [f32],
-    node_weights: &mut [f32],
-    mesh_weights: &mut [f32],
-) -> Block
+fn forms_of(text: &[u8], k: usize, p: Place, tables: &mut Tables<'_>) -> Block
     requires { Within text.now p.next p.counts × (k < 9) }
-    ensures { FormsRead text.now k p (slices words floats node_weights mesh_weights) result }
+    ensures same { SameSlices tables.old tables.new }
+    ensures read { FormsRead text.now k p (changed tables.old tables.new) result }
 {
     let title = scene_schema::title(k);
     let mut q = p;
@@ -137,7 +121,7 @@ fn forms_of(
             return Block { place: q, count };
         }
         q.next = w.next;
-        q = form(text, k, q, words, floats, node_weights, mesh_weights);
+        q = form(text, k, q, tables);
     }
     Block {
         place: q,
@@ -147,24 +131,16 @@ fn forms_of(
 
 // Reads all that is made of a text, whether it has a reading or not: items and records to the tables as far as there is
 // room, the records from word `rows` on. The text is compared where `met` says so.
-pub fn document(
-    text: &[u8],
-    rows: usize,
-    met: Met,
-    words: &mut [u32],
-    floats: &mut [f32],
-    node_weights: &mut [f32],
-    mesh_weights: &mut [f32],
-) -> Found
-    ensures { DocumentRead text.now rows met
-        (slices words floats node_weights mesh_weights) result }
+pub fn document(text: &[u8], rows: usize, met: Met, tables: &mut Tables<'_>) -> Found
+    ensures same { SameSlices tables.old tables.new }
+    ensures read { DocumentRead text.now rows met (changed tables.old tables.new) result }
 {
     let mut p = start(rows, met);
     let mut counts = [0usize; 9];
     let mut reaches = [0usize; 9];
     for k in 0..9 {
         p.reach = 0;
-        let b = forms_of(text, k, p, words, floats, node_weights, mesh_weights);
+        let b = forms_of(text, k, p, tables);
         p = b.place;
         counts[k] = b.count;
         reaches[k] = p.reach;

@@ -11,6 +11,15 @@ mod forms;
 
 pub use forms::document;
 
+// The four tables that a text is read into.
+#[derive(Drop)]
+pub struct Tables<'a> {
+    pub words: &'a mut [u32],
+    pub floats: &'a mut [f32],
+    pub node_weights: &'a mut [f32],
+    pub mesh_weights: &'a mut [f32],
+}
+
 // How many items stand in each table.
 #[derive(Clone, Copy)]
 pub struct Counts {
@@ -46,11 +55,11 @@ struct Entry {
     mark: Mark,
 }
 
-// The fields of a form in numbers, five for each slot, and where the text goes on behind them.
+// The fields of a form, a mark for each slot, and where the text goes on behind them.
 #[derive(Clone, Copy)]
 struct Row {
     spot: Spot,
-    marks: [usize; 80],
+    marks: [Mark; 16],
 }
 
 // Between forms: the same, the place of the next record, how far the lists of records reach, and what is asked for.

@@ -1,5 +1,5 @@
 -- A bake in fields: what it is asked for, and what it is to answer and leave. Definitions only.
-use Rattle.std.specs.Prelude.{◌≡◌, Bool, ◌&&◌, List, ℕ, ◌+◌, eqb, Float, length, get_or, take, replicate}
+use Rattle.std.specs.Prelude.{◌≡◌, Bool, ◌&&◌, List, ℕ, ◌+◌, eqb, Float, get_or, take, replicate}
 use Rattle.float.specs.F32.{f32, zero32}
 use Rattle.float.specs.F64.{f64, zero64}
 use Rattle.borrowed.specs.Slices.{Change}

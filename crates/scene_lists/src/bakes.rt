@@ -11,9 +11,11 @@ ghost use Rattle.scene_lists.specs.Lent.{lent_of};
 
 use crate::Scene;
 use bake::Answer;
+use borrowed::Vertices;
 use comparing::Agreement;
 use lists::Fields;
 use std::alloc::{AllocError, Global};
+use worlds::Room;
 
 // What a bake is asked for: the node, the time, and how far a float may lie from the Rust's.
 #[derive(Clone, Copy)]
@@ -100,7 +102,8 @@ fn compare_outputs(
 }
 
 impl Scene<'_> {
-    // With room for the poses and worlds of eight nodes.
+    // With room for the poses and worlds of eight nodes. The outputs are slices here, and become one value, as what is
+    // left in them is known by the call that borrows that value.
     fn bake(
         &self,
         asked: Asked,
@@ -115,22 +118,24 @@ impl Scene<'_> {
         let mut slots = [0.0f32; 80];
         let mut places = [0u32; 8];
         let mut worlds = [0.0f32; 128];
+        let mut room = Room {
+            walk,
+            places: &mut places,
+            worlds: &mut worlds,
+        };
+        let mut out = Vertices {
+            positions,
+            normals,
+            tangents,
+        };
         Answer::from(bake::world_mesh_at(
-            self.words,
-            &self.floats,
-            &self.node_weights,
-            &self.mesh_weights,
-            self.header,
+            self.lent(),
             asked.node,
             asked.time,
             &mut marks,
             &mut slots,
-            walk,
-            &mut places,
-            &mut worlds,
-            positions,
-            normals,
-            tangents,
+            &mut room,
+            &mut out,
         ))
     }
 

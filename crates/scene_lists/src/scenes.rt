@@ -4,7 +4,7 @@ ghost use Rattle.std.specs.Prelude.{◌≡◌, IfOk};
 use crate::headers::header;
 use lists::Fields;
 use std::alloc::{AllocError, Global};
-use tables::Header;
+use tables::{Header, Lent};
 
 #[derive(Drop)]
 pub struct Scene<'a> {
@@ -16,6 +16,7 @@ pub struct Scene<'a> {
 }
 
 impl<'a> Scene<'a> {
+    ghost use Rattle.tables.specs.Decoded as decoded;
     ghost use Rattle.lists.specs.Moves.{MovesTo};
     ghost use Rattle.scene_lists.specs.Scenes.{places_at};
     ghost use Rattle.scene_lists.specs.Lent.{lent_of, lent_at};
@@ -43,5 +44,17 @@ impl<'a> Scene<'a> {
             mesh_weights,
             header,
         })
+    }
+    // What it lends.
+    pub fn lent(&self) -> Lent<'_>
+        ensures { decoded.lent_of result ≡ lent_of self.now }
+    {
+        Lent {
+            words: self.words,
+            floats: &self.floats,
+            node_weights: &self.node_weights,
+            mesh_weights: &self.mesh_weights,
+            header: self.header,
+        }
     }
 }

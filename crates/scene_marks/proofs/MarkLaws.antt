@@ -1,49 +1,24 @@
 -- Fields in numbers: one read or set, of some the first that is there, and how many are. Assumes nothing.
-use mathlib.Core.Path.{◌≡◌, refl, sym}
+use mathlib.Core.Path.{◌≡◌, refl}
 use mathlib.Core.List.{List, [], ◌∷◌}
-use Prim.Native.Nat.{ℕ, suc, ◌+◌, ◌*◌, ◌-◌, ◌≤◌, ◌<◌}
+use Prim.Native.Nat.{ℕ, suc, ◌+◌, ◌-◌, ◌≤◌, ◌<◌}
 use native.Mathlib.Nat.{zero-add, add-zero, sub-zero}
 use native.Mathlib.Omega.{arith}
 use borrow.Author.Tests.{eq-eqb, ne_eqb}
 use lib.Dec.{eqb}
-use lib.ListN.{length, get_or, set, get_or-eq_default}
+use lib.ListN.{length}
 use lib.Seq.{sets, set_out}
 use Rattle.model.specs.Lists.{pick}
 use Rattle.scene_marks.specs.declared.Mark.{Mark}
-use Rattle.scene_marks.specs.Marks.{no_mark, set_mark, mark_at, chosen, present_from}
+use Rattle.scene_marks.specs.Marks.{mark_at, chosen, present_from}
 
--- ---- one field
-
--- past the last number nothing is there, and nothing is set
-pub mark-out : (marks : List ℕ) (j : ℕ) → length marks ≤ 5 * j → no_mark ≡ mark_at marks j
-mark-out marks j h =
-    let none : (n : ℕ) → 5 * j ≤ n → 0 ≡ get_or marks n 0 = λ n l. sym (get_or-eq_default marks 0 (omega arith)) in
-    λ i. record {
-      there = none (5 * j) (omega arith) i;
-      start = none (5 * j + 1) (omega arith) i;
-      count = none (5 * j + 2) (omega arith) i;
-      first = none (5 * j + 3) (omega arith) i;
-      second = none (5 * j + 4) (omega arith) i;
-    }
-
+-- ---- words past the end
 pub sets-out : (l : List ℕ) (k : ℕ) (xs : List ℕ) → length l ≤ k → l ≡ sets l k xs
 sets-out l k [] h = refl
 sets-out l k (x ∷ xs) h = rw (set_out l k x) (sets-out l (suc k) xs (omega arith))
 
--- one number after the other
-pub mark_set : (marks : List ℕ) (j : ℕ) (m : Mark)
-    → set (set (set (set (set marks (5 * j) m.there) (5 * j + 1) m.start) (5 * j + 2) m.count) (5 * j + 3)
-    m.first) (5 * j + 4) m.second
-    ≡ set_mark marks j m
-mark_set marks j m =
-    let a : 5 * j + 1 ≡ suc (5 * j) = omega arith in
-    let b : 5 * j + 2 ≡ suc (suc (5 * j)) = omega arith in
-    let c : 5 * j + 3 ≡ suc (suc (suc (5 * j))) = omega arith in
-    let d : 5 * j + 4 ≡ suc (suc (suc (suc (5 * j)))) = omega arith in
-    rw (a, b, c, d)
-
 -- ---- the first that is there
-chosen-turn : (marks : List ℕ) (a n i : ℕ) {m : Mark} → i < n → m ≡ mark_at marks (a + i) → chosen marks (a + i) (n - i)
+chosen-turn : (marks : List Mark) (a n i : ℕ) {m : Mark} → i < n → m ≡ mark_at marks (a + i) → chosen marks (a + i) (n - i)
     ≡ pick (eqb m.there 0) (suc (chosen marks (a + (i + 1)) (n - (i + 1)))) 0
 unfolding chosen
 chosen-turn marks a n i h e =
@@ -52,11 +27,11 @@ chosen-turn marks a n i h e =
     rw (t, u, e)
 
 -- what is still to be looked at makes up what was to be looked at
-pub record Choosing (marks : List ℕ) (a n i : ℕ) : Type 0 where
+pub record Choosing (marks : List Mark) (a n i : ℕ) : Type 0 where
   same : i + chosen marks (a + i) (n - i) ≡ chosen marks a n
   pub few : i ≤ n
 
-module _ {marks : List ℕ} {a n : ℕ} where
+module _ {marks : List Mark} {a n : ℕ} where
   pub choosing-starts : Choosing marks a n 0
   choosing-starts = record { same = simp (zero-add, add-zero, sub-zero); few = omega arith }
 
@@ -74,7 +49,7 @@ module _ {marks : List ℕ} {a n : ℕ} where
     choosing-ends h = let none : n - i ≡ 0 = omega arith in omega (arith, g.few, rw none at g.same)
 
 -- ---- how many are there
-present-turn : (marks : List ℕ) (j n i : ℕ) {m : Mark} → i < n → m ≡ mark_at marks (j + i)
+present-turn : (marks : List Mark) (j n i : ℕ) {m : Mark} → i < n → m ≡ mark_at marks (j + i)
     → present_from (n - i) (j + i) marks
     ≡ pick (eqb m.there 0) 0 1 + present_from (n - (i + 1)) (j + (i + 1)) marks
 unfolding present_from
@@ -84,12 +59,12 @@ present-turn marks j n i h e =
     rw (t, u, e)
 
 -- what is still to be counted makes up what was to be counted
-pub record Counting (marks : List ℕ) (j n count i : ℕ) : Type 0 where
+pub record Counting (marks : List Mark) (j n count i : ℕ) : Type 0 where
   same : count + present_from (n - i) (j + i) marks ≡ present_from n j marks
   pub few : count ≤ i
   pub inside : i ≤ n
 
-module _ {marks : List ℕ} {j n : ℕ} where
+module _ {marks : List Mark} {j n : ℕ} where
   pub counting-starts : Counting marks j n 0 0
   counting-starts =
       record { same = simp (zero-add, add-zero, sub-zero); few = omega arith; inside = omega arith }

@@ -1,13 +1,12 @@
-// The fields of a form in numbers, five for each slot: whether it is there, where its items start in their table, how
+// The fields of a form in numbers, a mark for each slot: whether it is there, where its items start in their table, how
 // many they are, and the first two. From these are made the words of a record, and it is told whether the form has the
 // fields that are asked of it.
 #![tactic(auto)]
 
-ghost use Rattle.std.specs.Prelude.{◌≡◌, ◌+◌, ◌*◌, ◌/◌, ◌%◌, ◌≤◌, ◌<◌, get_or, set};
+ghost use Rattle.std.specs.Prelude.{◌≡◌, Some, None, ◌+◌, ◌*◌, ◌/◌, ◌%◌, ◌≤◌, ◌<◌, get_or, set};
 ghost use Rattle.std.proofs.lemmas.List.Edits.{sets};
 ghost use Rattle.scene_schema.specs.Layout.{layout};
 ghost use Rattle.scene_schema.specs.Numbers.{slot_rules, no_rule};
-ghost use Rattle.scene_schema.specs.declared.Source.TheVariants.{Nothing};
 ghost use Rattle.scene_marks.specs.Marks.{set_mark, mark_at, chosen, word_from, row_of, present_from};
 ghost use Rattle.scene_marks.specs.Marks.{group_at, groups_of};
 
@@ -24,36 +23,23 @@ pub struct Mark {
 }
 
 // Slot j.
-pub fn mark_at(marks: &[usize; 80], j: usize) -> Mark
+pub fn mark_at(marks: &[Mark; 16], j: usize) -> Mark
     ensures { result ≡ mark_at marks.now j }
 {
-    if j < 16 {
-        return Mark {
-            there: marks[5 * j],
-            start: marks[5 * j + 1],
-            count: marks[5 * j + 2],
-            first: marks[5 * j + 3],
-            second: marks[5 * j + 4],
-        };
-    }
-    Mark::default()
+    if j < 16 { marks[j] } else { Mark::default() }
 }
 
 // Slot j is a field; there are sixteen.
-pub fn set_mark(marks: &mut [usize; 80], j: usize, m: Mark)
+pub fn set_mark(marks: &mut [Mark; 16], j: usize, m: Mark)
     ensures { marks.new ≡ set_mark marks.old j m }
 {
     if j < 16 {
-        marks[5 * j] = m.there;
-        marks[5 * j + 1] = m.start;
-        marks[5 * j + 2] = m.count;
-        marks[5 * j + 3] = m.first;
-        marks[5 * j + 4] = m.second;
+        marks[j] = m;
     }
 }
 
 // Of slot a and n more behind it, the first that is there, counted from a; the last where none before it is.
-fn chosen(marks: &[usize; 80], a: usize, n: usize) -> usize
+fn chosen(marks: &[Mark; 16], a: usize, n: usize) -> usize
     requires { (a < 256) × (n < 256) }
     ensures { (result ≡ chosen marks.now a n) × (result ≤ n) }
 {
@@ -80,19 +66,18 @@ fn entries(k: usize, j: usize, count: usize) -> usize
 }
 
 // The slot that is there, of slot a and n more behind it.
-fn the_one(marks: &[usize; 80], a: u8, n: u8) -> usize
+fn the_one(marks: &[Mark; 16], a: u8, n: u8) -> usize
     ensures { (result ≡ a + chosen marks.now a n) × (result < 512) }
 {
     a as usize + chosen(marks, a as usize, n as usize)
 }
 
 // A word of a record of kind k from its source, before it is cut to 32 bits.
-fn word(k: usize, source: Source, marks: &[usize; 80]) -> usize
+fn word(k: usize, source: Source, marks: &[Mark; 16]) -> usize
     requires { k < 9 }
-    ensures { result ≡ word_from k marks.now source }
+    ensures { result ≡ word_from k marks.now (Some source) }
 {
     match source {
-        Source::Nothing => 0,
         Source::Tag(a, n) => chosen(marks, a as usize, n as usize),
         Source::Mark(j) => {
             let m = mark_at(marks, j as usize);
@@ -118,19 +103,15 @@ fn word(k: usize, source: Source, marks: &[usize; 80]) -> usize
     }
 }
 
-// Word w of a record of kind k: one of the marks, or 0, or worked out.
-fn word_at(k: usize, w: usize, marks: &[usize; 80]) -> usize
+// Word w of a record of kind k.
+fn word_at(k: usize, w: usize, marks: &[Mark; 16]) -> usize
     requires { (k < 9) × (w < 16) }
-    ensures { result ≡ word_from k marks.now (get_or layout (16 * k + w) Nothing) }
+    ensures { result ≡ word_from k marks.now (get_or layout (16 * k + w) None) }
 {
-    let c = scene_schema::cell(16 * k + w);
-    if c < 80 {
-        return marks[c];
+    match scene_schema::word_source(16 * k + w) {
+        Some(source) => word(k, source, marks),
+        None => 0,
     }
-    if c == 81 {
-        return 0;
-    }
-    word(k, scene_schema::word_source(16 * k + w), marks)
 }
 
 fn store(words: &mut [u32], at: usize, x: usize)
@@ -142,7 +123,7 @@ fn store(words: &mut [u32], at: usize, x: usize)
 }
 
 // Puts the record of a form of kind k to the words from a place on, as far as there is room.
-pub fn put_row(k: usize, marks: &[usize; 80], words: &mut [u32], at: usize)
+pub fn put_row(k: usize, marks: &[Mark; 16], words: &mut [u32], at: usize)
     ensures { words.new ≡ sets words.old at (row_of k marks.now) }
 {
     if words.len() <= at {
@@ -155,7 +136,7 @@ pub fn put_row(k: usize, marks: &[usize; 80], words: &mut [u32], at: usize)
 }
 
 // How many of n slots from slot j on are there.
-fn present(marks: &[usize; 80], j: usize, n: usize) -> usize
+fn present(marks: &[Mark; 16], j: usize, n: usize) -> usize
     requires { (j < 16) × (n < 256) }
     ensures { result ≡ present_from n j marks.now }
 {
@@ -170,7 +151,7 @@ fn present(marks: &[usize; 80], j: usize, n: usize) -> usize
 }
 
 // Whether slot j of kind k starts no group of which not just one is there.
-fn group_holds(k: usize, j: usize, marks: &[usize; 80]) -> bool
+fn group_holds(k: usize, j: usize, marks: &[Mark; 16]) -> bool
     requires { (k < 9) × (j < 16) }
     ensures { result ≡ group_at k j marks.now }
 {
@@ -182,7 +163,7 @@ fn group_holds(k: usize, j: usize, marks: &[usize; 80]) -> bool
 }
 
 // Whether of each group of fields of a form of kind k just one is there.
-pub fn groups_hold(k: usize, marks: &[usize; 80]) -> bool
+pub fn groups_hold(k: usize, marks: &[Mark; 16]) -> bool
     ensures { result ≡ groups_of k marks.now }
 {
     let n = scene_schema::slots(k);

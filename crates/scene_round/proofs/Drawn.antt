@@ -24,8 +24,8 @@ use Rattle.tables.specs.Records.{alone, node_row, channel_row, mesh_row, primiti
 use Rattle.tables.specs.Records.{skeleton_row}
 use Rattle.tables.specs.Tags.{track_for}
 use Rattle.tables.specs.Decoded.{Lent, scene_of}
-use Rattle.tables.proofs.WholeRecords.{same-node, same-channel, same-mesh, same-primitive, same_target}
-use Rattle.tables.proofs.WholeRecords.{same-in-between, same-skin, same-skeleton}
+use Rattle.tables.specs.Alone.{same-node, same-channel, same-mesh, same-primitive, same_target}
+use Rattle.tables.specs.Alone.{same-in-between, same-skin, same-skeleton}
 use Rattle.row_checks.specs.Places.{fits_in, mesh_fits, primitive_fits, target_fits, in_between_fits, skeleton_fits}
 use Rattle.row_checks.specs.Bounds.{tags_known, mesh_within, primitive_within, target_within, in_between_within, skin_within}
 use Rattle.row_checks.specs.Bounds.{skeleton_within}

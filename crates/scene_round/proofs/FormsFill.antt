@@ -22,7 +22,8 @@ use Rattle.tables.specs.declared.ChannelRow.{ChannelRow}
 use Rattle.tables.specs.Records.{word_of, node_row, channel_row, mesh_row, primitive_row, target_row, in_between_row, skin_row}
 use Rattle.tables.specs.Records.{skeleton_row, node_words, channel_words, mesh_words, primitive_words, target_words}
 use Rattle.tables.specs.Records.{skin_words}
-use Rattle.tables.specs.Tags.{kind_for, track_for}
+use Rattle.tracks.specs.Codes.{kind_for}
+use Rattle.tables.specs.Tags.{track_for}
 use Rattle.tables.specs.Decoded.{Lent, span_in}
 use Rattle.row_checks.specs.Places.{fits_in, slot_fits, base_floats}
 use Rattle.row_checks.specs.Bounds.{is_known}

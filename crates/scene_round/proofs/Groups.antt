@@ -9,9 +9,10 @@ use lib.ListN.{get_or}
 use Rattle.model.specs.Lists.{pick}
 use Rattle.grammar.proofs.Words.{both}
 use Rattle.scene_schema.specs.Numbers.{slot_rules, no_rule}
+use Rattle.scene_marks.specs.declared.Mark.{Mark}
 use Rattle.scene_marks.specs.Marks.{mark_at, chosen, present_from, group_at, groups_from}
 
-pub group-at : (n k j : ℕ) (marks : List ℕ) → T (groups_from n k j marks) → (o i : ℕ) → i ≡ j + o → o < n
+pub group-at : (n k j : ℕ) (marks : List Mark) → T (groups_from n k j marks) → (o i : ℕ) → i ≡ j + o → o < n
     → T (group_at k i marks)
 unfolding groups_from
 group-at zero k j marks t o i e h = absurd (omega arith)
@@ -24,7 +25,7 @@ group-at (suc n) k j marks t (suc o) i e h =
     (omega arith)
 
 -- just one is there
-pub group-one : (k j n : ℕ) (marks : List ℕ) → (get_or slot_rules (16 * k + j) no_rule).one_of ≡ suc n
+pub group-one : (k j n : ℕ) (marks : List Mark) → (get_or slot_rules (16 * k + j) no_rule).one_of ≡ suc n
     → T (group_at k j marks) → present_from (suc n) j marks ≡ 1
 group-one k j n marks e t =
     let b = eqb (present_from (suc n) j marks) 1 in
@@ -32,7 +33,7 @@ group-one k j n marks e t =
     (subst (λ (a : Bool). T (a || b)) (eqb-suc-zero n)
     (subst (λ (g : ℕ). T (eqb g 0 || eqb (present_from g j marks) 1)) e t))
 
-module _ (marks : List ℕ) where
+module _ (marks : List Mark) where
   -- slot j is not there
   abbrev pub absent : ℕ → Bool
   absent j = eqb (mark_at marks j).there 0

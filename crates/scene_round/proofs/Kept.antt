@@ -10,8 +10,8 @@ use Rattle.model.proofs.ListLaws.{entries_from, by_entries}
 use Rattle.tracks.specs.declared.Part.{Part}
 use Rattle.tables.specs.Records.{alone, node_row, channel_row, mesh_row, primitive_row, target_row, in_between_row, skin_row}
 use Rattle.tables.specs.Records.{skeleton_row}
-use Rattle.tables.proofs.WholeRecords.{same-node, same-channel, same-mesh, same-primitive, same_target}
-use Rattle.tables.proofs.WholeRecords.{same-in-between, same-skin, same-skeleton}
+use Rattle.tables.specs.Alone.{same-node, same-channel, same-mesh, same-primitive, same_target}
+use Rattle.tables.specs.Alone.{same-in-between, same-skin, same-skeleton}
 use Rattle.grammar.specs.Forms.{Form, Document, FitsKinds}
 use Rattle.grammar.specs.Shape.{form_holds, holds}
 use Rattle.grammar.proofs.Words.{both}

@@ -31,7 +31,8 @@ use Rattle.tables.specs.declared.InBetweenRow.{InBetweenRow}
 use Rattle.tables.specs.declared.SkinRow.{SkinRow}
 use Rattle.tables.specs.declared.SkeletonRow.{SkeletonRow}
 use Rattle.tables.specs.Records.{primitive_row, target_row, in_between_row}
-use Rattle.tables.specs.Tags.{is_marked, kind_for, interpolation_for, property_for, id_of}
+use Rattle.tracks.specs.Codes.{kind_for, interpolation_for}
+use Rattle.tables.specs.Tags.{is_marked, property_for, id_of}
 use Rattle.tables.specs.Decoded.{Lent, span_in, slot_in, ten_in, parts_from, node_of, channel_of, in_between_of}
 use Rattle.tables.specs.Decoded.{records_in, target_of, primitive_of, mesh_of, skin_of, skeleton_of}
 use Rattle.grammar.specs.Forms.{Field, Form, Document}

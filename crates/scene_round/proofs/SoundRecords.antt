@@ -29,7 +29,8 @@ use Rattle.tables.specs.declared.SkinRow.{SkinRow}
 use Rattle.tables.specs.declared.SkeletonRow.{SkeletonRow}
 use Rattle.tables.specs.Records.{alone, word_of, node_row, channel_row, mesh_row, primitive_row, target_row, in_between_row}
 use Rattle.tables.specs.Records.{skin_row, skeleton_row}
-use Rattle.tables.specs.Tags.{kind_for, interpolation_for, track_for}
+use Rattle.tracks.specs.Codes.{kind_for, interpolation_for}
+use Rattle.tables.specs.Tags.{track_for}
 use Rattle.tables.specs.Decoded.{Lent, span_in}
 use Rattle.row_checks.specs.Places.{fits_in, slot_fits, base_floats, node_fits, mesh_fits, primitive_fits, target_fits}
 use Rattle.row_checks.specs.Places.{in_between_fits, skeleton_fits}

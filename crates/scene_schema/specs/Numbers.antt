@@ -1,29 +1,29 @@
 -- The schema in numbers, sixteen places a kind; crates/scene_schema/proofs/Numbers.antt proves that it is the schema.
 -- Definitions only.
-use Rattle.std.specs.Prelude.{Bool, true, false, List, [], ◌∷◌, ◌++◌, ℕ, zero, suc, ◌-◌, ◌/◌, ◌%◌, min}
+use Rattle.std.specs.Prelude.{Bool, true, false, List, [], ◌∷◌, ℕ}
+use Prim.Native.String.{String}
 use Rattle.model.specs.Lists.{pick}
 use Rattle.grammar.specs.Digits.{Sort, numbers, floats}
 use Rattle.grammar.specs.Forms.{Size, exactly, entries_of}
 use Rattle.scene_schema.specs.declared.Name.{Name}
+use Rattle.scene_schema.specs.Schema.{bytes}
 use Rattle.scene_schema.specs.declared.Rule.{Rule}
 use Rattle.scene_schema.specs.declared.Pool.{Pool}
 use Rattle.scene_schema.specs.declared.Pool.TheVariants as pool
 
--- a code, the count of letters, the first eight letters and the others
-abbrev n : ℕ → ℕ → ℕ → ℕ → Name
-n code letters low high = record { code = code; letters = letters; low = low; high = high }
+-- a title or a name: a code, and letters
+pub record Named : Type 0 where
+  pub code : ℕ
+  pub letters : List ℕ
+
+abbrev n : ℕ → String → Named
+n code s = record { code = code; letters = bytes s }
+
+abbrev pub named : Name → Named
+named name = record { code = name.code; letters = name.letters.now }
 
 abbrev r : Bool → ℕ → ℕ → Pool → Rule
 r fixed width one_of pool = record { fixed = fixed; width = width; one_of = one_of; pool = pool }
-
--- so many letters, the first one lowest
-unfoldable pub letters_in : ℕ → ℕ → List ℕ
-letters_in zero v = []
-letters_in (suc k) v = v % 256 ∷ letters_in k (v / 256)
-
-abbrev pub letters_of : Name → List ℕ
-letters_of name =
-    letters_in (min name.letters 8) name.low ++ letters_in (name.letters - 8) name.high
 
 abbrev pub size_for : Rule → Size
 size_for rule = pick rule.fixed (exactly rule.width) (entries_of rule.width)
@@ -37,17 +37,16 @@ sort_of pool.Floats = floats
 sort_of pool.NodeWeights = floats
 sort_of pool.MeshWeights = floats
 
-abbrev pub no_name : Name
-no_name = n 0 0 0 0
+abbrev pub no_name : Named
+no_name = n 0 ""
 
 abbrev pub no_rule : Rule
 no_rule = r true 0 0 pool.Number
 
-abbrev pub titles : List Name
+abbrev pub titles : List Named
 titles =
-    n 839294 5 435643835251 0 ∷ n 30942 4 1701080942 0 ∷ n 203061221 7 30510822457436259 0 ∷ n 28353 4 1752393069 0 ∷
-    n 41647526654 9 8532478965186130544 101 ∷ n 14332141 6 127978876068212 0 ∷ n 200085223 7 31073733908391266 0 ∷
-    n 50215 4 1852402547 0 ∷ n 3303402887 8 7957707045546060659 0 ∷ []
+    n 839294 "scene" ∷ n 30942 "node" ∷ n 203061221 "channel" ∷ n 28353 "mesh" ∷ n 41647526654 "primitive" ∷
+    n 14332141 "target" ∷ n 200085223 "between" ∷ n 50215 "skin" ∷ n 3303402887 "skeleton" ∷ []
 
 abbrev pub slot_counts : List ℕ
 slot_counts = 3 ∷ 6 ∷ 12 ∷ 2 ∷ 6 ∷ 4 ∷ 3 ∷ 2 ∷ 2 ∷ []
@@ -55,34 +54,27 @@ slot_counts = 3 ∷ 6 ∷ 12 ∷ 2 ∷ 6 ∷ 4 ∷ 3 ∷ 2 ∷ 2 ∷ []
 abbrev pub strides : List ℕ
 strides = 0 ∷ 16 ∷ 8 ∷ 4 ∷ 16 ∷ 12 ∷ 8 ∷ 4 ∷ 4 ∷ []
 
-abbrev pub slot_names : List Name
+abbrev pub slot_names : List Named
 slot_names =
-    n 30942 4 1701080942 0 ∷ n 53870 4 1701669236 0 ∷ n 755932 5 495874699122 0 ∷ no_name ∷ no_name ∷ no_name ∷ no_name ∷
+    n 30942 "node" ∷ n 53870 "time" ∷ n 755932 "roots" ∷ no_name ∷ no_name ∷ no_name ∷ no_name ∷ no_name ∷ no_name ∷
+    no_name ∷ no_name ∷ no_name ∷ no_name ∷ no_name ∷ no_name ∷ no_name ∷ n 633820 "parts" ∷ n 7002913 "matrix" ∷
+    n 3240483815 "children" ∷ n 28353 "mesh" ∷ n 50215 "skin" ∷ n 14811612 "weights" ∷ no_name ∷ no_name ∷ no_name ∷
+    no_name ∷ no_name ∷ no_name ∷ no_name ∷ no_name ∷ no_name ∷ no_name ∷ n 14332141 "target" ∷
+    n 45035999879 "translation" ∷ n 3101348487 "rotation" ∷ n 838238 "scale" ∷ n 14811612 "weights" ∷
+    n 52713 "step" ∷ n 5406379 "linear" ∷ n 47996031614 "cubicspline" ∷ n 20012 "keys" ∷ n 65219 "vec3" ∷
+    n 44717 "quat" ∷ n 13411755 "scalar" ∷ no_name ∷ no_name ∷ no_name ∷ no_name ∷ n 47885135852 "primitives" ∷
+    n 14811612 "weights" ∷ no_name ∷ no_name ∷ no_name ∷ no_name ∷ no_name ∷ no_name ∷ no_name ∷ no_name ∷ no_name ∷
+    no_name ∷ no_name ∷ no_name ∷ no_name ∷ no_name ∷ n 41006475388 "positions" ∷ n 126577244 "normals" ∷
+    n 3664832476 "tangents" ∷ n 3680220 "joints" ∷ n 14811612 "weights" ∷ n 229314268 "targets" ∷ no_name ∷
     no_name ∷ no_name ∷ no_name ∷ no_name ∷ no_name ∷ no_name ∷ no_name ∷ no_name ∷ no_name ∷
-    n 633820 5 495874892144 0 ∷ n 7002913 6 132394287128941 0 ∷ n 3240483815 8 7954890092460992611 0 ∷
-    n 28353 4 1752393069 0 ∷ n 50215 4 1852402547 0 ∷ n 14811612 7 32497614082106743 0 ∷ no_name ∷ no_name ∷ no_name ∷
-    no_name ∷ no_name ∷ no_name ∷ no_name ∷ no_name ∷ no_name ∷ no_name ∷
-    n 14332141 6 127978876068212 0 ∷ n 45035999879 11 8386103224169493108 7237481 ∷
-    n 3101348487 8 7957695015159099250 0 ∷ n 838238 5 435610018675 0 ∷ n 14811612 7 32497614082106743 0 ∷
-    n 52713 4 1885697139 0 ∷ n 5406379 6 125762639128940 0 ∷ n 47996031614 11 7813872224294827363 6647401 ∷
-    n 20012 4 1937335659 0 ∷ n 65219 4 862152054 0 ∷ n 44717 4 1952544113 0 ∷ n 13411755 6 125762755715955 0 ∷
-    no_name ∷ no_name ∷ no_name ∷ no_name ∷
-    n 47885135852 10 8532478965186130544 29541 ∷ n 14811612 7 32497614082106743 0 ∷ no_name ∷ no_name ∷ no_name ∷
+    n 41006475388 "positions" ∷ n 126577244 "normals" ∷ n 3664832476 "tangents" ∷ n 3201363580 "betweens" ∷
     no_name ∷ no_name ∷ no_name ∷ no_name ∷ no_name ∷ no_name ∷ no_name ∷ no_name ∷ no_name ∷ no_name ∷ no_name ∷
-    n 41006475388 9 7957695015293251440 115 ∷ n 126577244 7 32488788025569134 0 ∷
-    n 3664832476 8 8319395793466188148 0 ∷ n 3680220 6 126943905804138 0 ∷ n 14811612 7 32497614082106743 0 ∷
-    n 229314268 7 32497601197793652 0 ∷ no_name ∷ no_name ∷ no_name ∷ no_name ∷ no_name ∷ no_name ∷ no_name ∷ no_name ∷
-    no_name ∷ no_name ∷
-    n 41006475388 9 7957695015293251440 115 ∷ n 126577244 7 32488788025569134 0 ∷
-    n 3664832476 8 8319395793466188148 0 ∷ n 3201363580 8 8317697048270103906 0 ∷ no_name ∷ no_name ∷ no_name ∷ no_name ∷
-    no_name ∷ no_name ∷ no_name ∷ no_name ∷ no_name ∷ no_name ∷ no_name ∷ no_name ∷
-    n 925725 6 127991760381303 0 ∷ n 41006475388 9 7957695015293251440 115 ∷ n 126577244 7 32488788025569134 0 ∷
-    no_name ∷ no_name ∷ no_name ∷ no_name ∷ no_name ∷ no_name ∷ no_name ∷ no_name ∷ no_name ∷ no_name ∷ no_name ∷ no_name ∷
-    no_name ∷
-    n 3303402887 8 7957707045546060659 0 ∷ n 47245 4 1953460082 0 ∷ no_name ∷ no_name ∷ no_name ∷ no_name ∷ no_name ∷
-    no_name ∷ no_name ∷ no_name ∷ no_name ∷ no_name ∷ no_name ∷ no_name ∷ no_name ∷ no_name ∷
-    n 3680220 6 126943905804138 0 ∷ n 731100 5 495606196578 0 ∷ no_name ∷ no_name ∷ no_name ∷ no_name ∷ no_name ∷ no_name ∷
-    no_name ∷ no_name ∷ no_name ∷ no_name ∷ no_name ∷ no_name ∷ no_name ∷ no_name ∷ []
+    no_name ∷ n 925725 "weight" ∷ n 41006475388 "positions" ∷ n 126577244 "normals" ∷ no_name ∷ no_name ∷ no_name ∷
+    no_name ∷ no_name ∷ no_name ∷ no_name ∷ no_name ∷ no_name ∷ no_name ∷ no_name ∷ no_name ∷ no_name ∷
+    n 3303402887 "skeleton" ∷ n 47245 "root" ∷ no_name ∷ no_name ∷ no_name ∷ no_name ∷ no_name ∷ no_name ∷ no_name ∷
+    no_name ∷ no_name ∷ no_name ∷ no_name ∷ no_name ∷ no_name ∷ no_name ∷ n 3680220 "joints" ∷ n 731100 "binds" ∷
+    no_name ∷ no_name ∷ no_name ∷ no_name ∷ no_name ∷ no_name ∷ no_name ∷ no_name ∷ no_name ∷ no_name ∷ no_name ∷
+    no_name ∷ no_name ∷ no_name ∷ []
 
 abbrev pub slot_rules : List Rule
 slot_rules =

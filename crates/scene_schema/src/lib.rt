@@ -1,22 +1,21 @@
 // The forms of a scene's text (docs/TEXT.md): their names, what is asked of their fields, and the records that are made
 // of them.
 #![tactic(auto)]
+// Kinds and slots are numbers: all that reads or writes goes over them in their order, slot j of kind k by 16 k + j.
 
 mod names;
 mod rows;
 mod rules;
 
 pub use names::{slot_name, slots, title};
-pub use rows::{cell, stride, word_source};
+pub use rows::{stride, word_source};
 pub use rules::{group, slot_rule};
 
-// A title or a name: what it is told by, and its letters, the first eight and the others, the first one lowest.
+// A title or a name: what it is told by, and its letters.
 #[derive(Clone, Copy)]
 pub struct Name {
     pub code: u64,
-    pub letters: u8,
-    pub low: u64,
-    pub high: u64,
+    pub letters: &'static [u8],
 }
 
 // Where the items of a field go: a number or the bits of a float to no table, ids to `words`, others to one of the
@@ -45,7 +44,6 @@ pub struct Rule {
 // where its items start, how many entries they are. Of one slot, its mark, its first or its second item.
 #[derive(Clone, Copy)]
 pub enum Source {
-    Nothing,
     Tag(u8, u8),
     Mark(u8),
     Start(u8, u8),

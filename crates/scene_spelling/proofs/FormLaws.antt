@@ -10,7 +10,7 @@ use Rattle.grammar.specs.Forms.{Slot, Field, Form, field_text, fields_text, form
 use Rattle.spelling.specs.Pushed.{Out, pushes}
 use Rattle.spelling.proofs.Pushing.{put-append}
 use Rattle.scene_schema.specs.Schema.{kind_at, no_slot}
-use Rattle.scene_schema.specs.Numbers.{titles, slot_names, no_name, letters_of}
+use Rattle.scene_schema.specs.Numbers.{titles, slot_names, no_name}
 use Rattle.scene_schema.proofs.Numbers.{kind-is}
 use Rattle.scene_spelling.specs.Texts.{slot_text}
 use Rattle.scene_spelling.proofs.FieldLaws.{put_same}
@@ -36,9 +36,9 @@ slot_texts g (t ∷ ts) [] = []
 slot_texts g [] fs = []
 
 abbrev Named : ℕ → List Slot → Type 0
-Named g ts = (j : ℕ) → j < length ts → letters_of (get_or slot_names (g + j) no_name) ≡ (get_or ts j no_slot).name
+Named g ts = (j : ℕ) → j < length ts → (get_or slot_names (g + j) no_name).letters ≡ (get_or ts j no_slot).name
 
-field-text : (g : ℕ) (t : Slot) (f : Field) → letters_of (get_or slot_names g no_name) ≡ t.name
+field-text : (g : ℕ) (t : Slot) (f : Field) → (get_or slot_names g no_name).letters ≡ t.name
     → slot_text g t.sort f ≡ field_text t f
 field-text g t none e = refl
 field-text g t (some xs) e = ap (λ (name : List ℕ). 32 ∷ 40 ∷ name ++ items_text t.sort xs ++ 41 ∷ []) e
@@ -58,7 +58,7 @@ fields-text xs g [] fs named = sym (append-nil xs)
 -- ---- a form of kind k
 abbrev pub spelled_form : ℕ → Form → List ℕ
 spelled_form k fs =
-    joined (40 ∷ letters_of (get_or titles k no_name)) (slot_texts (16 * k) (kind_at k).slots fs) ++ 41 ∷ 10 ∷ []
+    joined (40 ∷ (get_or titles k no_name).letters) (slot_texts (16 * k) (kind_at k).slots fs) ++ 41 ∷ 10 ∷ []
 
 pub form-text : (k : ℕ) (fs : Form) → k < 9 → spelled_form k fs ≡ form_text (kind_at k) fs
 form-text k fs h =

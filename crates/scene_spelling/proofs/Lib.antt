@@ -1,3 +1,2 @@
-pub mod LetterLaws
 pub mod FieldLaws
 pub mod FormLaws

@@ -4,13 +4,13 @@ use Rattle.std.proofs.Math.Option.{none, some}
 use Rattle.tracks.specs.declared.Part.{Part}
 use Rattle.grammar.specs.Digits.{Sort, numbers, floats, items_text}
 use Rattle.grammar.specs.Forms.{Field}
-use Rattle.scene_schema.specs.Numbers.{slot_names, no_name, letters_of}
+use Rattle.scene_schema.specs.Numbers.{slot_names, no_name}
 use Rattle.scene_spelling.specs.Written.{tag_field, parts_field, matrix_field, values_field}
 
 -- slot j of kind k is 16 k + j
 abbrev pub slot_text : ℕ → Sort → Field → List ℕ
 slot_text g s none = []
-slot_text g s (some xs) = 32 ∷ 40 ∷ letters_of (get_or slot_names g no_name) ++ items_text s xs ++ 41 ∷ []
+slot_text g s (some xs) = 32 ∷ 40 ∷ (get_or slot_names g no_name).letters ++ items_text s xs ++ 41 ∷ []
 
 -- of the base transform of a node, of what a channel drives, of its interpolation, of its values
 abbrev pub base_text : List Float → ℕ → ℕ → List ℕ

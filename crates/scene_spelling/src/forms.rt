@@ -2,6 +2,7 @@
 ghost use Rattle.grammar.specs.Digits.{numbers};
 ghost use Rattle.grammar.specs.Forms.{form_text};
 ghost use Rattle.spelling.specs.Pushed.{Puts};
+ghost use Rattle.tables.specs.Decoded.{lent_of};
 ghost use Rattle.tables.specs.Records.{node_row, channel_row, mesh_row, primitive_row, target_row, in_between_row};
 ghost use Rattle.tables.specs.Records.{skin_row};
 ghost use Rattle.tables.specs.Records.{skeleton_row};
@@ -11,7 +12,7 @@ ghost use Rattle.scene_spelling.specs.Written.{primitive_form, target_form, in_b
 ghost use Rattle.scene_spelling.specs.Texts.{slot_text, base_text, property_text, interpolation_text, values_text};
 
 use crate::fields;
-use tables::Slot;
+use tables::{Lent, Slot};
 use tracks::Part;
 
 // The node and the time that are asked for, and the roots.
@@ -28,8 +29,8 @@ pub fn put_scene(
     let times = [time; 1];
     let a = fields::open_form(out, at, 0);
     let b = fields::put_number(out, a, 0, node);
-    let c = fields::put_floats(out, b, 1, &times);
-    let d = fields::put_numbers(out, c, 2, tables::words_in(words, roots, 1));
+    let c = fields::put_items(out, b, 1, &times);
+    let d = fields::put_items(out, c, 2, tables::words_in(words, roots, 1));
     fields::close_form(out, d)
 }
 
@@ -42,39 +43,32 @@ fn put_base(out: &mut [u8], at: usize, floats: &[f32], form: u32, base: usize) -
             at: base,
             count: 10,
         };
-        return fields::put_floats(out, at, 16, tables::floats_in(floats, parts, 1));
+        return fields::put_items(out, at, 16, tables::floats_in(floats, parts, 1));
     }
     let matrix = Part {
         at: base,
         count: 16,
     };
-    fields::put_floats(out, at, 17, tables::floats_in(floats, matrix, 1))
+    fields::put_items(out, at, 17, tables::floats_in(floats, matrix, 1))
 }
 
 // Node i of a table.
-pub fn put_node(
-    out: &mut [u8],
-    at: usize,
-    words: &[u32],
-    floats: &[f32],
-    node_weights: &[f32],
-    t: Part,
-    i: usize,
-) -> usize
-    ensures { Puts (form_text (kind_at 1) (node_form words.now floats.now
-        node_weights.now (node_row words.now t i))) out at result }
+pub fn put_node(out: &mut [u8], at: usize, lent: Lent<'_>, t: Part, i: usize) -> usize
+    ensures { let l = lent_of lent.entry in
+        Puts (form_text (kind_at 1) (node_form l.words l.floats l.node_weights (node_row l.words t i))) out at result }
 {
+    let words = lent.words;
     let row = tables::node_row(words, t, i);
     let children = row.children;
     let mesh = row.mesh;
     let skin = row.skin;
     let weights = row.weights;
     let a = fields::open_form(out, at, 1);
-    let b = put_base(out, a, floats, row.form, row.base);
-    let c = fields::put_numbers(out, b, 18, tables::words_in(words, children, 1));
+    let b = put_base(out, a, lent.floats, row.form, row.base);
+    let c = fields::put_items(out, b, 18, tables::words_in(words, children, 1));
     let d = fields::put_id(out, c, 19, mesh);
     let e = fields::put_id(out, d, 20, skin);
-    let f = fields::put_slot(out, e, 21, node_weights, weights, 1);
+    let f = fields::put_slot(out, e, 21, lent.node_weights, weights, 1);
     fields::close_form(out, f)
 }
 
@@ -101,16 +95,12 @@ fn put_interpolation(out: &mut [u8], at: usize, interpolation: u32) -> usize
 fn put_values(out: &mut [u8], at: usize, floats: &[f32], kind: u32, values: Part) -> usize
     ensures { Puts (values_text floats.now kind values) out at result }
 {
-    if kind == 0 {
-        return fields::put_floats(out, at, 41, tables::floats_in(floats, values, 3));
+    match kind {
+        0 => fields::put_items(out, at, 41, tables::floats_in(floats, values, 3)),
+        1 => fields::put_items(out, at, 42, tables::floats_in(floats, values, 4)),
+        2 => fields::put_items(out, at, 43, tables::floats_in(floats, values, 1)),
+        _ => at,
     }
-    if kind == 1 {
-        return fields::put_floats(out, at, 42, tables::floats_in(floats, values, 4));
-    }
-    if kind == 2 {
-        return fields::put_floats(out, at, 43, tables::floats_in(floats, values, 1));
-    }
-    at
 }
 
 // Channel i of a table.
@@ -132,7 +122,7 @@ pub fn put_channel(
     let b = fields::put_number(out, a, 32, row.target);
     let c = put_property(out, b, row.property);
     let d = put_interpolation(out, c, row.interpolation);
-    let e = fields::put_floats(out, d, 40, tables::floats_in(floats, keys, 1));
+    let e = fields::put_items(out, d, 40, tables::floats_in(floats, keys, 1));
     let f = put_values(out, e, floats, row.kind, values);
     fields::close_form(out, f)
 }
@@ -154,7 +144,7 @@ pub fn put_mesh(
     let weights = row.weights;
     let a = fields::open_form(out, at, 3);
     let b = fields::put_list(out, a, 48, primitives);
-    let c = fields::put_floats(out, b, 49, tables::floats_in(mesh_weights, weights, 1));
+    let c = fields::put_items(out, b, 49, tables::floats_in(mesh_weights, weights, 1));
     fields::close_form(out, c)
 }
 
@@ -164,7 +154,7 @@ fn put_joints(out: &mut [u8], at: usize, words: &[u32], joints: Slot) -> usize
 {
     if tables::is_marked(joints.mark) {
         let p = joints.part;
-        return fields::put_numbers(out, at, 67, tables::words_in(words, p, 4));
+        return fields::put_items(out, at, 67, tables::words_in(words, p, 4));
     }
     at
 }
@@ -189,7 +179,7 @@ pub fn put_primitive(
     let weights = row.weights;
     let targets = row.targets;
     let a = fields::open_form(out, at, 4);
-    let b = fields::put_floats(out, a, 64, tables::floats_in(floats, positions, 3));
+    let b = fields::put_items(out, a, 64, tables::floats_in(floats, positions, 3));
     let c = fields::put_slot(out, b, 65, floats, normals, 3);
     let d = fields::put_slot(out, c, 66, floats, tangents, 4);
     let e = put_joints(out, d, words, joints);
@@ -243,7 +233,7 @@ pub fn put_in_between(
         count: 1,
     };
     let a = fields::open_form(out, at, 6);
-    let b = fields::put_floats(out, a, 96, tables::floats_in(floats, weight, 1));
+    let b = fields::put_items(out, a, 96, tables::floats_in(floats, weight, 1));
     let c = fields::put_slot(out, b, 97, floats, positions, 3);
     let d = fields::put_slot(out, c, 98, floats, normals, 3);
     fields::close_form(out, d)
@@ -277,7 +267,7 @@ pub fn put_skeleton(
     let joints = row.joints;
     let inverse_binds = row.inverse_binds;
     let a = fields::open_form(out, at, 8);
-    let b = fields::put_numbers(out, a, 128, tables::words_in(words, joints, 1));
-    let c = fields::put_floats(out, b, 129, tables::floats_in(floats, inverse_binds, 16));
+    let b = fields::put_items(out, a, 128, tables::words_in(words, joints, 1));
+    let c = fields::put_items(out, b, 129, tables::floats_in(floats, inverse_binds, 16));
     fields::close_form(out, c)
 }

@@ -3,6 +3,7 @@ use mathlib.Core.Path.{◌≡◌, refl, sym, ap, subst, ◌∙◌}
 use mathlib.Core.Bool.{Bool, true, false, ◌&&◌, ◌||◌, not, true≢false}
 use mathlib.Core.List.{List, [], ◌∷◌, map}
 use mathlib.Core.Option.{Option, none, some}
+use Rattle.std.proofs.Common.{Ok}
 use Prim.Native.Nat.{ℕ, suc, ◌+◌, ◌*◌, ◌%◌, ◌≤◌, ◌<◌, min}
 use native.Mathlib.Nat.{mod-eq_of_lt}
 use native.Mathlib.Omega.{arith}
@@ -30,11 +31,11 @@ use Rattle.scene_forms.specs.Said.{ids_of, tables_of, header_from, table_at, hea
 use Rattle.scene_forms.specs.Read.{Slices, DocumentRead, whole_at, start_at}
 use Rattle.scene_forms.proofs.TextLaws.{item-small, document-request}
 use Rattle.scene_forms.proofs.TableLaws.{document-laid, whole_words, row_words, rows_long}
-use Rattle.scene_text.specs.declared.Needed.{Needed}
-use Rattle.scene_text.specs.Scanned.{Scanned, is_reading, leaves_table, words_of_counts, room_in, is_short_for}
-use Rattle.scene_text.specs.Scanned.{number_for, accepted_from}
-use Rattle.scene_text.specs.Reading.{read, Lengths, needed_by, is_short, read_number, laid_in}
-use Rattle.scene_text.specs.Reading.{accepted_as, room_tests}
+use Rattle.scene_text.specs.declared.Lengths.{Lengths}
+use Rattle.scene_text.specs.Scanned.{Scanned, is_reading, words_of_counts, room_in, lengths_from, is_short}
+use Rattle.scene_text.specs.Scanned.{unread_for, number_for, accepted_from}
+use Rattle.scene_text.specs.Reading.{read, needed_by, read_number, laid_in}
+use Rattle.scene_text.specs.Reading.{answer_of, accepted_as, room_tests}
 use Rattle.scene_text.proofs.ScanLaws.{count_at, told-counts, told-leaves, reading-told}
 
 -- ---- lengths
@@ -51,16 +52,6 @@ far-short len x = go (ltb (room_in len) x) refl
     go : (t : Bool) → ltb (room_in len) x ≡ t → ltb (room_in len) (min x farthest) ≡ t
     go true e = lt-ltb (room_in len) (min x farthest) (let h = ltb-true (room_in len) x e in omega arith)
     go false e = le-ltb (room_in len) (min x farthest) (let h = ltb-false (room_in len) x e in omega arith)
-
--- the lengths that the reader is lent
-abbrev pub room_for : Lengths → Needed
-room_for l = record {
-  number = 0;
-  words = l.words;
-  floats = l.floats;
-  node_weights = l.node_weights;
-  mesh_weights = l.mesh_weights;
-}
 
 words_long : (d : Document) → length (tables_of d).words ≡ length (ids_of d) + row_words 0 d
 unfolding tables_of
@@ -101,7 +92,7 @@ module _ {text : List ℕ} {f : Found} (s : Scanned text f) where
         ∙ reals-long (items_from pool.MeshWeights 0 d)) i;
   }
 
-  pub short-told : (lent : Lengths) → is_short_for f (room_for lent) ≡ is_short lent (needed_by d)
+  pub short-told : (lent : Lengths) → is_short lent (lengths_from f) ≡ is_short lent (needed_by d)
   short-told lent =
       ap (λ (b : Bool). b || (ltb (room_in lent.floats) told.floats
       || (ltb (room_in lent.node_weights) told.node_weights
@@ -117,7 +108,7 @@ module _ {text : List ℕ} {f : Found} (s : Scanned text f) where
       ∷ record { applies = is_short lent (needed_by (or_else o [])); refusal = short_output }
       ∷ []
 
-  pub number-told : (lent : Lengths) → number_for (length text) f (room_for lent) ≡ read_number text lent
+  pub number-told : (lent : Lengths) → number_for (length text) f lent ≡ read_number text lent
   unfolding first_of reading_of
   number-told lent =
       (λ i. pick (reading-told s i)
@@ -132,10 +123,10 @@ module _ {text : List ℕ} {f : Found} (s : Scanned text f) where
       go true = refl
       go false = refl
 
-  pub room-told : pick (is_reading (length text) f) (pick (leaves_table f) (number out_of_table) 0) (number bad_form)
-      ≡ first_of (room_tests text)
+  pub room-told : unread_for (length text) f ≡ first_of (room_tests text)
   unfolding first_of reading_of
-  room-told = (λ i. pick (reading-told s i) (pick (told-leaves s.read i) (number out_of_table) 0) (number bad_form))
+  room-told =
+      (λ i. pick (reading-told s i) (pick (told-leaves s.read i) (number out_of_table) 0) (number bad_form))
       ∙ go (is_text kinds text d)
     where
       go : (t : Bool) → pick t (pick (leaves d) (number out_of_table) 0) (number bad_form)
@@ -196,7 +187,7 @@ and_last true false c e h = absurd (true≢false (sym h))
 and_last false b c e h = absurd (true≢false (sym h))
 
 module _ {text : List ℕ} {f : Found} (s : Scanned text f) (h : is_reading (length text) f ≡ true) where
-  pub accepted-told : accepted_from f ≡ accepted_as (parsed kinds text)
+  pub accepted-told : answer_of (Ok (accepted_from f)) ≡ accepted_as (parsed kinds text)
   unfolding header_of
   accepted-told =
       let d = parsed kinds text in

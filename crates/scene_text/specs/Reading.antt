@@ -1,9 +1,11 @@
 -- What the reader of a text answers (request 2026-01): 13 where the text has no reading, 1 where a list of records
 -- leaves its table, 10 where a table is too short, otherwise 0. Definitions only.
-use Rattle.std.specs.Prelude.{◌≡◌, Bool, not, ◌||◌, List, [], ◌∷◌, ℕ, min, ltb, eqb, length}
+use Rattle.std.specs.Prelude.{◌≡◌, not, List, [], ◌∷◌, ℕ, min, eqb, length, Result, Ok, Err}
 use Rattle.std.proofs.lemmas.List.Edits.{sets}
 use Rattle.borrowed.specs.Slices.{Change}
 use Rattle.float.specs.F32.{zero32}
+use Rattle.refusals.specs.Drawn.{number_of}
+use Rattle.refusals.specs.declared.Refusal.{Refusal}
 use Rattle.model.specs.Lists.{pick, is_some, or_else}
 use Rattle.model.specs.Refusals.{Test, bad_form, out_of_table, short_output, first_of}
 use Rattle.tables.specs.declared.Header.{Header}
@@ -14,7 +16,9 @@ use Rattle.spelling.specs.Pushed.{farthest}
 use Rattle.scene_forms.specs.Read.{Slices}
 use Rattle.scene_text.specs.declared.Reading.{Reading}
 use Rattle.scene_text.specs.declared.Needed.{Needed}
-use Rattle.scene_text.specs.Scanned.{room_in}
+use Rattle.scene_text.specs.declared.Contents.{Contents}
+use Rattle.scene_text.specs.declared.Lengths.{Lengths}
+use Rattle.scene_text.specs.Scanned.{is_short}
 use Rattle.scene_forms.specs.Said.{tables_of, header_from, table_at, header_of, node_of, time_of, leaves}
 
 -- the reading of a text; where it has none, what this is does not matter
@@ -22,12 +26,6 @@ abbrev pub read : List ℕ → Document
 read text = or_else (reading_of kinds text) []
 
 -- how long each slice is
-pub record Lengths : Type 0 where
-  pub words : ℕ
-  pub floats : ℕ
-  pub node_weights : ℕ
-  pub mesh_weights : ℕ
-
 abbrev pub lengths_of : Slices → Lengths
 lengths_of s = record {
   words = length s.words;
@@ -38,13 +36,6 @@ lengths_of s = record {
 
 abbrev pub needed_by : Document → Lengths
 needed_by d = lengths_of (tables_of d)
-
-abbrev pub is_short : Lengths → Lengths → Bool
-is_short lent needed =
-    ltb (room_in lent.words) needed.words
-    || (ltb (room_in lent.floats) needed.floats
-    || (ltb (room_in lent.node_weights) needed.node_weights
-    || ltb (room_in lent.mesh_weights) needed.mesh_weights))
 
 abbrev pub read_tests : List ℕ → Lengths → List Test
 read_tests text lent =
@@ -75,6 +66,11 @@ refused_by n = record { number = n; header = no_header; node = 0; time = zero32 
 abbrev pub accepted_as : Document → Reading
 accepted_as d = record { number = 0; header = header_of d; node = node_of d; time = time_of d }
 
+-- what the reader tells, as a C function answers it
+abbrev pub answer_of : Result Contents Refusal → Reading
+answer_of (Ok s) = record { number = 0; header = s.header; node = s.node; time = s.time }
+answer_of (Err r) = refused_by (number_of r)
+
 -- refused, nothing is changed
 pub record SceneRead (text : List ℕ) (l : Change Slices) (r : Reading) : Type 0 where
   pub answer : r ≡ pick (eqb (read_number text (lengths_of l.from)) 0) (accepted_as (read text))
@@ -88,6 +84,17 @@ room_tests text =
     record { applies = not (is_some (reading_of kinds text)); refusal = bad_form }
     ∷ record { applies = leaves (read text); refusal = out_of_table }
     ∷ []
+
+-- what is told of it, as a C function answers it
+abbrev pub told_by : Result Lengths Refusal → Needed
+told_by (Ok l) = record {
+  number = 0;
+  words = l.words;
+  floats = l.floats;
+  node_weights = l.node_weights;
+  mesh_weights = l.mesh_weights;
+}
+told_by (Err r) = record { number = number_of r; words = 0; floats = 0; node_weights = 0; mesh_weights = 0 }
 
 abbrev pub needed_as : ℕ → Lengths → Needed
 needed_as n l = record {

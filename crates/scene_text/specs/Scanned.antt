@@ -11,8 +11,8 @@ use Rattle.scene_forms.specs.declared.Found.{Found}
 use Rattle.spelling.specs.Pushed.{farthest}
 use Rattle.scene_forms.specs.Read.{Slices, DocumentRead}
 use Rattle.scene_forms.specs.Said.{header_from, table_at}
-use Rattle.scene_text.specs.declared.Needed.{Needed}
-use Rattle.scene_text.specs.declared.Reading.{Reading}
+use Rattle.scene_text.specs.declared.Contents.{Contents}
+use Rattle.scene_text.specs.declared.Lengths.{Lengths}
 
 -- all that is made of the text, put into some slices, and the text compared from its start
 pub record Scanned (text : List ℕ) (f : Found) : Type 0 where
@@ -42,22 +42,35 @@ words_for ids counts = min (ids + words_of_counts 0 counts) farthest
 abbrev pub room_in : ℕ → ℕ
 room_in len = min len 0xffff_ffff
 
-abbrev pub is_short_for : Found → Needed → Bool
-is_short_for f room =
-    ltb (room_in room.words) (words_for f.place.counts.ids f.counts)
-    || (ltb (room_in room.floats) f.place.counts.floats
-    || (ltb (room_in room.node_weights) f.place.counts.node_weights
-    || ltb (room_in room.mesh_weights) f.place.counts.mesh_weights))
+-- how long the tables are
+abbrev pub lengths_from : Found → Lengths
+lengths_from f = record {
+  words = words_for f.place.counts.ids f.counts;
+  floats = f.place.counts.floats;
+  node_weights = f.place.counts.node_weights;
+  mesh_weights = f.place.counts.mesh_weights;
+}
 
-abbrev pub number_for : ℕ → Found → Needed → ℕ
-number_for len f room =
+abbrev pub is_short : Lengths → Lengths → Bool
+is_short lent needed =
+    ltb (room_in lent.words) needed.words
+    || (ltb (room_in lent.floats) needed.floats
+    || (ltb (room_in lent.node_weights) needed.node_weights
+    || ltb (room_in lent.mesh_weights) needed.mesh_weights))
+
+-- the number that is drawn whatever the slices are, and with slices of such lengths
+abbrev pub unread_for : ℕ → Found → ℕ
+unread_for len f = pick (is_reading len f) (pick (leaves_table f) (number out_of_table) 0) (number bad_form)
+
+abbrev pub number_for : ℕ → Found → Lengths → ℕ
+number_for len f lent =
     pick (is_reading len f)
-    (pick (leaves_table f) (number out_of_table) (pick (is_short_for f room) (number short_output) 0)) (number bad_form)
+    (pick (leaves_table f) (number out_of_table) (pick (is_short lent (lengths_from f)) (number short_output) 0))
+    (number bad_form)
 
 -- where the tables lie, and what is asked for
-abbrev pub accepted_from : Found → Reading
+abbrev pub accepted_from : Found → Contents
 accepted_from f = record {
-  number = 0;
   header = header_from f.place.counts.ids (table_at 0 f.place.request.roots) (λ k. get_or f.counts k 0);
   node = f.place.request.node % 0x1_0000_0000;
   time = of_bits binary32 (f.place.request.time % 0x1_0000_0000);

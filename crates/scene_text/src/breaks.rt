@@ -1,9 +1,8 @@
 // Where a text breaks.
 ghost use Rattle.std.specs.Prelude.{◌≡◌};
-ghost use Rattle.scene_text.specs.Breaks.{place_from, break_for};
+ghost use Rattle.scene_text.specs.Breaks.{place_from, break_told, break_for};
 
-use crate::{Break, tables_read};
-use refusals::BAD_FORM;
+use crate::tables_read;
 use scene_forms::Found;
 
 // The place at which a text of so many bytes breaks, where it has no reading.
@@ -12,30 +11,20 @@ fn place_from(len: usize, f: Found) -> usize
 {
     let met = f.place.met;
     let shape = f.place.shape;
-    if !met.ok {
-        return met.at;
+    if met.ok && met.at == len {
+        return if shape.ok { len } else { shape.at };
     }
-    if met.at != len {
-        return met.at;
-    }
-    if !shape.ok {
-        return shape.at;
-    }
-    len
+    met.at
 }
 
-// Finds where a text breaks: 13 and the place where it has no reading, otherwise 0 and 0. The place is that of the
-// first byte that departs; where none does, that of the closing bracket of the first field or form whose shape breaks,
-// or the end of the text.
-pub fn find_break(text: &[u8]) -> Break
-    ensures { result ≡ break_for text.now }
+// Finds where a text breaks, if it has no reading: the place of the first byte that departs; where none does, that of
+// the closing bracket of the first field or form whose shape breaks, or the end of the text.
+pub fn find_break(text: &[u8]) -> Option<usize>
+    ensures { break_told result ≡ break_for text.now }
 {
     let f = tables_read::scan(text);
     if tables_read::is_reading(text.len(), f) {
-        return Break { number: 0, at: 0 };
+        return None;
     }
-    Break {
-        number: BAD_FORM,
-        at: place_from(text.len(), f),
-    }
+    Some(place_from(text.len(), f))
 }

@@ -1,16 +1,17 @@
 // A text is read twice: once to compare, judge and measure it, and once, where nothing is refused, into the tables.
 ghost use Rattle.std.specs.Prelude.{◌≡◌, ◌+◌, ◌*◌, ◌≤◌, min, ltb, get_or};
+ghost use Rattle.refusals.specs.Drawn.{number_drawn};
 ghost use Rattle.spelling.specs.Pushed.{farthest};
-ghost use Rattle.scene_forms.specs.Read.{slices};
+ghost use Rattle.scene_forms.specs.Read.{SameSlices, changed};
 ghost use Rattle.scene_forms.specs.Said.{header_from, table_at};
 ghost use Rattle.scene_text.specs.Scanned.{Scanned, is_reading, leaves_table, words_of_counts, words_for, room_in};
-ghost use Rattle.scene_text.specs.Scanned.{number_for, accepted_from};
-ghost use Rattle.scene_text.specs.Reading.{SceneRead, refused_by, needed_as, room_of};
+ghost use Rattle.scene_text.specs.Scanned.{lengths_from, is_short, unread_for, number_for, accepted_from};
+ghost use Rattle.scene_text.specs.Reading.{SceneRead, answer_of, told_by, no_header, room_of};
 
-use crate::{Needed, Reading};
+use crate::{Contents, Lengths};
 use brackets::Met;
-use refusals::{BAD_FORM, OUT_OF_TABLE, SHORT_OUTPUT};
-use scene_forms::Found;
+use refusals::Refusal;
+use scene_forms::{Found, Tables};
 use tables::{Graph, Header, Meshes, Skins};
 use tracks::Part;
 
@@ -22,16 +23,14 @@ pub(crate) fn scan(text: &[u8]) -> Found
     let mut floats = [0f32; 1];
     let mut node_weights = [0f32; 1];
     let mut mesh_weights = [0f32; 1];
+    let mut tables = Tables {
+        words: &mut words,
+        floats: &mut floats,
+        node_weights: &mut node_weights,
+        mesh_weights: &mut mesh_weights,
+    };
     let met = Met { at: 0, ok: true };
-    scene_forms::document(
-        text,
-        0,
-        met,
-        &mut words,
-        &mut floats,
-        &mut node_weights,
-        &mut mesh_weights,
-    )
+    scene_forms::document(text, 0, met, &mut tables)
 }
 
 // Whether a text of so many bytes is that of what was made of it, and that has its shape.
@@ -40,17 +39,7 @@ pub(crate) fn is_reading(len: usize, f: Found) -> bool
 {
     let met = f.place.met;
     let shape = f.place.shape;
-    let counts = f.counts;
-    if !met.ok {
-        return false;
-    }
-    if met.at != len {
-        return false;
-    }
-    if !shape.ok {
-        return false;
-    }
-    counts[0] == 1
+    met.ok && met.at == len && shape.ok && f.counts[0] == 1
 }
 
 // Whether a list of records leaves its table.
@@ -59,13 +48,7 @@ fn leaves_table(f: Found) -> bool
 {
     let counts = f.counts;
     let reaches = f.reaches;
-    if counts[4] < reaches[3] {
-        return true;
-    }
-    if counts[5] < reaches[4] {
-        return true;
-    }
-    counts[6] < reaches[5]
+    counts[4] < reaches[3] || counts[5] < reaches[4] || counts[6] < reaches[5]
 }
 
 // So many records of so many words more, or a number that no slice has room for.
@@ -104,32 +87,53 @@ fn is_short(len: usize, needed: usize) -> bool
     len < needed
 }
 
-// What a text that was read draws, with slices of so many entries.
-fn number_for(len: usize, f: Found, room: Needed) -> u32
+// Whether slices of such lengths have no room for tables of such lengths.
+fn are_short(lent: Lengths, needed: Lengths) -> bool
+    ensures { result ≡ is_short lent needed }
+{
+    is_short(lent.words, needed.words)
+        || is_short(lent.floats, needed.floats)
+        || is_short(lent.node_weights, needed.node_weights)
+        || is_short(lent.mesh_weights, needed.mesh_weights)
+}
+
+// How long the tables are that are made of a text.
+fn lengths_from(f: Found) -> Lengths
     requires { f.place.counts.ids ≤ farthest }
-    ensures { result ≡ number_for len f room }
+    ensures { result ≡ lengths_from f }
+{
+    let n = f.place.counts;
+    Lengths {
+        words: words_for(n.ids, f.counts),
+        floats: n.floats,
+        node_weights: n.node_weights,
+        mesh_weights: n.mesh_weights,
+    }
+}
+
+// What a text of so many bytes draws, whatever it is read into.
+fn check_reading(len: usize, f: Found) -> Result<(), Refusal>
+    ensures { number_drawn result ≡ unread_for len f }
 {
     if !is_reading(len, f) {
-        return BAD_FORM;
+        return Err(Refusal::BadForm);
     }
     if leaves_table(f) {
-        return OUT_OF_TABLE;
+        return Err(Refusal::OutOfTable);
     }
-    let n = f.place.counts;
-    let counts = f.counts;
-    if is_short(room.words, words_for(n.ids, counts)) {
-        return SHORT_OUTPUT;
+    Ok(())
+}
+
+// What it draws, read into slices of such lengths.
+fn check(len: usize, f: Found, lent: Lengths) -> Result<(), Refusal>
+    requires { f.place.counts.ids ≤ farthest }
+    ensures { number_drawn result ≡ number_for len f lent }
+{
+    check_reading(len, f)?;
+    if are_short(lent, lengths_from(f)) {
+        return Err(Refusal::ShortOutput);
     }
-    if is_short(room.floats, n.floats) {
-        return SHORT_OUTPUT;
-    }
-    if is_short(room.node_weights, n.node_weights) {
-        return SHORT_OUTPUT;
-    }
-    if is_short(room.mesh_weights, n.mesh_weights) {
-        return SHORT_OUTPUT;
-    }
-    0
+    Ok(())
 }
 
 // Where the tables lie, each behind the one before, the first of them at a word.
@@ -169,28 +173,22 @@ fn part(at: usize, count: usize) -> Part
     Part { at, count }
 }
 
-fn refused(number: u32) -> Reading
-    ensures { result ≡ refused_by number }
+// The header of no tables at all.
+pub(crate) fn no_header() -> Header
+    ensures { result ≡ no_header }
 {
-    Reading {
-        number,
-        header: header_from(0, 0, [0usize; 9]),
-        node: 0,
-        time: 0.0,
-    }
+    header_from(0, 0, [0usize; 9])
 }
 
 // What a text that was read says besides its tables.
-fn accepted(f: Found) -> Reading
+fn contents(f: Found) -> Contents
     requires { f.place.counts.ids + words_of_counts 0 f.counts ≤ 0xffff_ffff }
     ensures { result ≡ accepted_from f }
 {
     let n = f.place.counts;
     let request = f.place.request;
-    let counts = f.counts;
-    Reading {
-        number: 0,
-        header: header_from(n.ids, request.roots, counts),
+    Contents {
+        header: header_from(n.ids, request.roots, f.counts),
         node: (request.node % 0x1_0000_0000) as u32,
         time: float::from_bits((request.time % 0x1_0000_0000) as u32),
     }
@@ -198,71 +196,29 @@ fn accepted(f: Found) -> Reading
 
 // Reads a scene from a text into four tables, each filled from its start: 13 where the text has no reading, 1 where a
 // list of records leaves its table, 10 where a table is too short. Refused, nothing is changed.
-pub fn read_scene(
-    text: &[u8],
-    words: &mut [u32],
-    floats: &mut [f32],
-    node_weights: &mut [f32],
-    mesh_weights: &mut [f32],
-) -> Reading
-    ensures { SceneRead text.now (slices words floats node_weights mesh_weights) result }
+pub fn read_scene(text: &[u8], tables: &mut Tables<'_>) -> Result<Contents, Refusal>
+    ensures same { SameSlices tables.old tables.new }
+    ensures read { SceneRead text.now (changed tables.old tables.new) (answer_of result) }
 {
     let f = scan(text);
-    let room = Needed {
-        number: 0,
-        words: words.len(),
-        floats: floats.len(),
-        node_weights: node_weights.len(),
-        mesh_weights: mesh_weights.len(),
+    let lent = Lengths {
+        words: tables.words.len(),
+        floats: tables.floats.len(),
+        node_weights: tables.node_weights.len(),
+        mesh_weights: tables.mesh_weights.len(),
     };
-    let number = number_for(text.len(), f, room);
-    if number != 0 {
-        return refused(number);
-    }
+    check(text.len(), f, lent)?;
     let n = f.place.counts;
     let unseen = Met { at: 0, ok: false };
-    scene_forms::document(
-        text,
-        n.ids,
-        unseen,
-        words,
-        floats,
-        node_weights,
-        mesh_weights,
-    );
-    accepted(f)
+    scene_forms::document(text, n.ids, unseen, tables);
+    Ok(contents(f))
 }
 
 // Tells how long the tables must be to read a text: 13 or 1 where it is refused whatever they are.
-pub fn text_room(text: &[u8]) -> Needed
-    ensures { result ≡ room_of text.now }
+pub fn text_room(text: &[u8]) -> Result<Lengths, Refusal>
+    ensures { told_by result ≡ room_of text.now }
 {
     let f = scan(text);
-    if !is_reading(text.len(), f) {
-        return no_room(BAD_FORM);
-    }
-    if leaves_table(f) {
-        return no_room(OUT_OF_TABLE);
-    }
-    let n = f.place.counts;
-    let counts = f.counts;
-    Needed {
-        number: 0,
-        words: words_for(n.ids, counts),
-        floats: n.floats,
-        node_weights: n.node_weights,
-        mesh_weights: n.mesh_weights,
-    }
-}
-
-fn no_room(number: u32) -> Needed
-    ensures { result ≡ needed_as number (record { words = 0; floats = 0; node_weights = 0; mesh_weights = 0 }) }
-{
-    Needed {
-        number,
-        words: 0,
-        floats: 0,
-        node_weights: 0,
-        mesh_weights: 0,
-    }
+    check_reading(text.len(), f)?;
+    Ok(lengths_from(f))
 }

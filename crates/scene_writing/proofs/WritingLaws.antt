@@ -8,16 +8,21 @@ use borrow.Author.Tests.{lt-ltb, le-ltb, ne_eqb}
 use lib.Dec.{eqb}
 use lib.ListN.{length}
 use lib.Seq.{sets}
+use Rattle.std.proofs.Common.{Result, Ok, Err}
+use Rattle.std.specs.Result.{IsErrAnd}
 use Rattle.borrowed.specs.Slices.{Words}
 use Rattle.model.specs.Lists.{pick}
 use Rattle.model.specs.Refusals.{number, short_output, first_of}
 use Rattle.model.proofs.Numbers.{lowest-some}
+use Rattle.refusals.specs.Drawn.{number_of}
+use Rattle.refusals.specs.declared.Refusal.{Refusal}
+use Rattle.refusals.proofs.Told.{not-none, passed-on}
 use Rattle.tables.specs.Decoded.{Lent}
 use Rattle.checks.specs.Drawn.{tables_number}
 use Rattle.spelling.specs.Pushed.{Out, out_at, farthest, push, pushes}
 use Rattle.spelling.proofs.Pushing.{put-sets}
 use Rattle.scene_writing.specs.declared.Written.{Written}
-use Rattle.scene_writing.specs.Writing.{written_as, write_number, SceneWritten, length_for}
+use Rattle.scene_writing.specs.Writing.{written_as, told_by, write_number, SceneWritten, length_for}
 
 -- ---- the place that a text leaves
 place-left : (bs : List ℕ) (o : Out) → o.at ≤ farthest → (pushes bs o).at ≡ min (o.at + length bs) farthest
@@ -44,9 +49,17 @@ whole (b ∷ bs) lent h r e =
     e ∙ sym (put-sets lent 0 text (length text) (omega arith) refl (omega arith) refl (omega arith))
 
 -- ---- what is answered
-pub length-told : (l : Lent) (text bytes : List ℕ) {n : ℕ} {left : Out} → n ≡ tables_number l → n ≡ 0
-    → left ≡ pushes text (out_at bytes 0) → written_as n left.at ≡ length_for l text
-length-told l text bytes e z p = rw (← e, z) (ap (written_as 0) (measured text bytes p))
+pub length-refused : (l : Lent) (text : List ℕ) (r : Result ℕ Refusal) (e : Refusal) → IsErrAnd r (λ y. y ≡ e)
+    → number_of e ≡ tables_number l → told_by r ≡ length_for l text
+length-refused l text r e p h =
+    let no = sym (ne_eqb (tables_number l) 0 (λ z. not-none e (h ∙ z))) in
+    ap told_by (passed-on r e p) ∙ (λ i. written_as (h i) (pick (no i) (min (length text) farthest) 0))
+
+pub length-told : (l : Lent) (text bytes : List ℕ) {left : Out} → 0 ≡ tables_number l
+    → left ≡ pushes text (out_at bytes 0) → told_by (Ok left.at) ≡ length_for l text
+length-told l text bytes z p =
+    ap (written_as 0) (measured text bytes p)
+    ∙ (λ i. written_as (z i) (pick (eqb (z i) 0) (min (length text) farthest) 0))
 
 module _ (l : Lent) (text : List ℕ) (out : Words) where
   abbrev lent : List ℕ
@@ -60,32 +73,32 @@ module _ (l : Lent) (text : List ℕ) (out : Words) where
     output = o ∙ ap (λ (n : ℕ). pick (eqb n 0) (sets lent 0 text) lent) f;
   }
 
-  module _ {m : Written} (told : m ≡ length_for l text) where
-    drawn : m.number ≡ tables_number l
+  pub write-refused : (r : Result ℕ Refusal) (e : Refusal) → IsErrAnd r (λ y. y ≡ e)
+      → told_by (Err e) ≡ length_for l text → out.exit.now ≡ lent → SceneWritten l text out (told_by r)
+  write-refused r e p told o =
+      let g = tables_number l in
+      let some : g ≡ 0 → ⊥ = λ z. not-none e (ap (λ (w : Written). w.number) told ∙ z) in
+      let none = ne_eqb g 0 some in
+      answered g (lowest-some g _ some) (ap told_by (passed-on r e p) ∙ rw none (rw none at told)) (rw none o)
+
+  module _ {n : ℕ} (told : told_by (Ok n) ≡ length_for l text) where
+    drawn : 0 ≡ tables_number l
     drawn = ap (λ (w : Written). w.number) told
 
-    needed : m.number ≡ 0 → m.length ≡ min (length text) farthest
-    needed z = rw (← drawn, z) at (ap (λ (w : Written). w.length) told)
+    needed : n ≡ min (length text) farthest
+    needed = rw (← drawn) at (ap (λ (w : Written). w.length) told)
 
-    pub write-refused : (m.number ≡ 0 → ⊥) → out.exit.now ≡ lent → SceneWritten l text out m
-    write-refused d o =
-        let g = tables_number l in
-        let some : g ≡ 0 → ⊥ = λ z. d (drawn ∙ z) in
-        let none = ne_eqb g 0 some in
-        answered g (lowest-some g _ some) (rw none (rw none at told)) (rw none o)
-
-    pub write-short : m.number ≡ 0 → length lent < m.length → out.exit.now ≡ lent
-        → SceneWritten l text out (written_as (number short_output) 0)
+    pub write-short : length lent < n → out.exit.now ≡ lent → SceneWritten l text out (written_as (number short_output) 0)
     unfolding first_of
-    write-short z h o =
-        let short : length lent < length text = omega (arith, needed z) in
-        answered 10 (rw (← drawn, z, lt-ltb (length lent) (length text) short)) refl o
+    write-short h o =
+        let short : length lent < length text = omega (arith, needed) in
+        answered 10 (rw (← drawn, lt-ltb (length lent) (length text) short) refl) refl o
 
-    pub write-whole : {next : ℕ} → m.number ≡ 0 → m.length ≤ length lent → length lent < farthest
+    pub write-whole : {next : ℕ} → n ≤ length lent → length lent < farthest
         → out_at out.exit.now next ≡ pushes text (out_at lent 0) → SceneWritten l text out (written_as 0 next)
     unfolding first_of
-    write-whole z h b p =
-        let fits : length text ≤ length lent = omega (arith, needed z) in
+    write-whole h b p =
+        let fits : length text ≤ length lent = omega (arith, needed) in
         let put = whole text lent b fits p in
-        answered 0 (rw (← drawn, z, le-ltb (length lent) (length text) fits))
+        answered 0 (rw (← drawn, le-ltb (length lent) (length text) fits) refl)
         (ap (λ (o : Out). written_as 0 o.at) put) (ap (λ (o : Out). o.bytes) put)

@@ -1,10 +1,12 @@
 -- What the writer of a scene answers (request 2026-01): 1 and 2 as every call on a scene, 10 where the output is too
 -- short, otherwise 0 and the length of the text. Definitions only.
-use Rattle.std.specs.Prelude.{◌≡◌, List, [], ◌∷◌, ℕ, min, ltb, eqb, Float, length}
+use Rattle.std.specs.Prelude.{◌≡◌, List, [], ◌∷◌, ℕ, min, ltb, eqb, Float, length, Result, Ok, Err}
 use Rattle.std.proofs.lemmas.List.Edits.{sets}
 use Rattle.borrowed.specs.Slices.{Words}
 use Rattle.model.specs.Lists.{pick}
 use Rattle.model.specs.Refusals.{short_output, first_of, lowest}
+use Rattle.refusals.specs.Drawn.{number_of}
+use Rattle.refusals.specs.declared.Refusal.{Refusal}
 use Rattle.tables.specs.Decoded.{Lent}
 use Rattle.checks.specs.Drawn.{tables_number}
 use Rattle.grammar.specs.Forms.{document_text}
@@ -19,6 +21,11 @@ scene_text l node time = document_text kinds (document_of l node time)
 
 abbrev pub written_as : ℕ → ℕ → Written
 written_as number length = record { number = number; length = length }
+
+-- what the writer tells, as a C function answers it
+abbrev pub told_by : Result ℕ Refusal → Written
+told_by (Ok n) = written_as 0 n
+told_by (Err r) = written_as (number_of r) 0
 
 abbrev pub write_number : Lent → List ℕ → ℕ → ℕ
 write_number l text room =

@@ -2,24 +2,37 @@
 #![tactic(auto)]
 
 ghost use Rattle.std.specs.Prelude.{◌≡◌, suc, ◌<◌};
-ghost use Rattle.borrowed.specs.Slices.{Words, Floats};
-ghost use Rattle.checks.specs.Drawn.{scene_lent};
 ghost use Rattle.grammar.specs.Forms.{form_text};
 ghost use Rattle.spelling.specs.Pushed.{Puts};
+ghost use Rattle.tables.specs.Decoded.{lent_of};
 ghost use Rattle.scene_schema.specs.Schema.{kind_at};
 ghost use Rattle.scene_writing.specs.Forms.{table_for, form_for, table_text, tables_text};
-ghost use Rattle.scene_writing.specs.Writing.{scene_text, SceneWritten, length_for};
+ghost use Rattle.scene_writing.specs.Writing.{scene_text, told_by, SceneWritten, length_for};
 
-use refusals::SHORT_OUTPUT;
-use tables::Header;
+use refusals::Refusal;
+use tables::{Header, Lent};
 use tracks::Part;
 
-// A refusal number, or 0, and how many bytes the text has.
+// A refusal number, or 0, and how many bytes the text has: what a C function answers.
 #[repr(C)]
 #[derive(Clone, Copy)]
 pub struct Written {
     pub number: u32,
     pub length: usize,
+}
+
+impl From<Result<usize, Refusal>> for Written {
+    ghost from_gives = { λ r a. a ≡ told_by r };
+
+    fn from(r: Result<usize, Refusal>) -> Written {
+        match r {
+            Ok(length) => Written { number: 0, length },
+            Err(e) => Written {
+                number: u32::from(e),
+                length: 0,
+            },
+        }
+    }
 }
 
 // The table of kind k + 1.
@@ -43,26 +56,16 @@ fn table_for(h: Header, k: usize) -> Part
 }
 
 // Puts record i of a table of kind k + 1.
-fn put_record(
-    out: &mut [u8],
-    at: usize,
-    words: &[u32],
-    floats: &[f32],
-    node_weights: &[f32],
-    mesh_weights: &[f32],
-    h: Header,
-    t: Part,
-    k: usize,
-    i: usize,
-) -> usize
+fn put_record(out: &mut [u8], at: usize, lent: Lent<'_>, t: Part, k: usize, i: usize) -> usize
     requires { k < 8 }
-    ensures { Puts (form_text (kind_at (suc k))
-        (form_for (scene_lent words floats node_weights mesh_weights h) t k i)) out at result }
+    ensures { Puts (form_text (kind_at (suc k)) (form_for (lent_of lent.entry) t k i)) out at result }
 {
+    let words = lent.words;
+    let floats = lent.floats;
     match k {
-        0 => scene_spelling::put_node(out, at, words, floats, node_weights, t, i),
+        0 => scene_spelling::put_node(out, at, lent, t, i),
         1 => scene_spelling::put_channel(out, at, words, floats, t, i),
-        2 => scene_spelling::put_mesh(out, at, words, mesh_weights, t, i),
+        2 => scene_spelling::put_mesh(out, at, words, lent.mesh_weights, t, i),
         3 => scene_spelling::put_primitive(out, at, words, floats, t, i),
         4 => scene_spelling::put_target(out, at, words, floats, t, i),
         5 => scene_spelling::put_in_between(out, at, words, floats, t, i),
@@ -72,131 +75,48 @@ fn put_record(
 }
 
 // Puts all records of the table of kind k + 1.
-fn put_table(
-    out: &mut [u8],
-    at: usize,
-    words: &[u32],
-    floats: &[f32],
-    node_weights: &[f32],
-    mesh_weights: &[f32],
-    h: Header,
-    k: usize,
-) -> usize
+fn put_table(out: &mut [u8], at: usize, lent: Lent<'_>, k: usize) -> usize
     requires { k < 8 }
-    ensures { Puts (table_text (scene_lent words floats node_weights mesh_weights h) k) out at result }
+    ensures { Puts (table_text (lent_of lent.entry) k) out at result }
 {
-    let t = table_for(h, k);
+    let t = table_for(lent.header, k);
     let mut next = at;
     for i in 0..t.count {
-        next = put_record(
-            out,
-            next,
-            words,
-            floats,
-            node_weights,
-            mesh_weights,
-            h,
-            t,
-            k,
-            i,
-        );
+        next = put_record(out, next, lent, t, k, i);
     }
     next
 }
 
 // Puts the whole text.
-fn put_text(
-    out: &mut [u8],
-    words: &[u32],
-    floats: &[f32],
-    node_weights: &[f32],
-    mesh_weights: &[f32],
-    h: Header,
-    node: u32,
-    time: f32,
-) -> usize
-    ensures { Puts (scene_text (scene_lent words floats node_weights mesh_weights h) node time) out 0 result }
+fn put_text(out: &mut [u8], lent: Lent<'_>, node: u32, time: f32) -> usize
+    ensures { Puts (scene_text (lent_of lent.entry) node time) out 0 result }
 {
-    let graph = h.graph;
-    let roots = graph.roots;
-    let mut next = scene_spelling::put_scene(out, 0, words, roots, node, time);
+    let graph = lent.header.graph;
+    let mut next = scene_spelling::put_scene(out, 0, lent.words, graph.roots, node, time);
     for k in 0..8 {
-        next = put_table(out, next, words, floats, node_weights, mesh_weights, h, k);
+        next = put_table(out, next, lent, k);
     }
     next
 }
 
 // How long the text of a lent scene is: 1 or 2 where its tables draw it.
-pub fn text_length(
-    words: &[u32],
-    floats: &[f32],
-    node_weights: &[f32],
-    mesh_weights: &[f32],
-    h: Header,
-    node: u32,
-    time: f32,
-) -> Written
-    ensures { result ≡ (let l = scene_lent words floats node_weights mesh_weights h in
-        length_for l (scene_text l node time)) }
+pub fn text_length(lent: Lent<'_>, node: u32, time: f32) -> Result<usize, Refusal>
+    ensures { let l = lent_of lent.entry in told_by result ≡ length_for l (scene_text l node time) }
 {
-    let number = refusals::number(checks::check_tables(
-        words,
-        floats,
-        node_weights,
-        mesh_weights,
-        h,
-    ));
-    if number != 0 {
-        return Written { number, length: 0 };
-    }
+    checks::check_tables(lent)?;
     let mut none = [0u8; 1];
-    let length = put_text(
-        &mut none,
-        words,
-        floats,
-        node_weights,
-        mesh_weights,
-        h,
-        node,
-        time,
-    );
-    Written { number, length }
+    Ok(put_text(&mut none, lent, node, time))
 }
 
 // Writes a lent scene as text: 1 or 2 where its tables draw it, 10 where the output is too short. Refused, nothing is
 // changed.
-pub fn write_scene(
-    words: &[u32],
-    floats: &[f32],
-    node_weights: &[f32],
-    mesh_weights: &[f32],
-    h: Header,
-    node: u32,
-    time: f32,
-    out: &mut [u8],
-) -> Written
-    ensures { let l = scene_lent words floats node_weights mesh_weights h in
-        SceneWritten l (scene_text l node time) out result }
+pub fn write_scene(lent: Lent<'_>, node: u32, time: f32, out: &mut [u8]) -> Result<usize, Refusal>
+    ensures { let l = lent_of lent.entry in
+        SceneWritten l (scene_text l node time) out (told_by result) }
 {
-    let measured = text_length(words, floats, node_weights, mesh_weights, h, node, time);
-    if measured.number != 0 {
-        return measured;
+    let needed = text_length(lent, node, time)?;
+    if out.len() < needed {
+        return Err(Refusal::ShortOutput);
     }
-    if out.len() < measured.length {
-        return Written {
-            number: SHORT_OUTPUT,
-            length: 0,
-        };
-    }
-    let length = put_text(
-        out,
-        words,
-        floats,
-        node_weights,
-        mesh_weights,
-        h,
-        node,
-        time,
-    );
-    Written { number: 0, length }
+    Ok(put_text(out, lent, node, time))
 }

@@ -3,13 +3,12 @@ use mathlib.Core.Path.{◌≡◌, refl, sym, ap, ◌∙◌, subst}
 use mathlib.Core.Bool.{Bool, true, false}
 use mathlib.Core.List.{List, []}
 use mathlib.Core.Option.{Option, none, some}
-use Prim.Native.Nat.{ℕ, ◌*◌, ◌/◌}
+use Prim.Native.Nat.{◌/◌}
 use lib.Ieee.{Float}
 use lib.ListN.{length}
 use Rattle.model.specs.Lists.{pick, tabulate, rows_in, or_else}
-use Rattle.model.specs.Vector.{Vector}
 use Rattle.model.specs.Matrix.{Matrix}
-use Rattle.model.specs.Scene.{Target, Primitive}
+use Rattle.model.specs.Scene.{Primitive}
 use Rattle.model.specs.Morph.{with_targets}
 use Rattle.model.specs.Vertices.{Shape}
 use Rattle.model.specs.Attributes.{attributes_in, shape_of, over_rows, Reshaped}
@@ -24,15 +23,6 @@ use Rattle.shapes.specs.Rest.{slot_floats}
 use Rattle.mesh.proofs.Sizes.{targets-sized, all-lent-rows}
 use Rattle.shapes.proofs.Shaping.{placed_alike, Rowed, placed-rowed}
 use Rattle.shapes.proofs.Morphing.{bare_of, morphed-bare, morphed-keeps}
-
--- slices that hold the same, before a call
-pub reshaped_at : (f : List Float → List Float → List Float → Shape) (p q n o t u p' n' t' : List Float) → p ≡ q → n ≡ o → t ≡ u
-    → Reshaped (f p n t) p p' n n' t t' → Reshaped (f q o u) q p' o n' u t'
-reshaped_at f p q n o t u p' n' t' a b c r = record {
-  positions = r.positions ∙ (λ j. over_rows 3 (f (a j) (b j) (c j)).positions (a j));
-  normals = r.normals ∙ (λ j. over_rows 3 (f (a j) (b j) (c j)).normals (b j));
-  tangents = r.tangents ∙ (λ j. over_rows 4 (f (a j) (b j) (c j)).tangents (c j));
-}
 
 -- an attribute that is absent has no rows
 slot-rows3 : (floats : List Float) (s : Slot) → or_else (slot_in floats s 3) [] ≡ rows_in 3 (slot_floats floats s 3)

@@ -7,7 +7,6 @@ use native.Mathlib.Omega.{arith}
 use lib.Ieee.{Float}
 use lib.ListN.{length}
 use lib.Seq.{paste}
-use Rattle.model.specs.Lists.{joined}
 use Rattle.model.specs.Matrix.{Matrix}
 use Rattle.model.specs.Scene.{Primitive}
 use Rattle.model.specs.Vertices.{Shape}
@@ -16,9 +15,8 @@ use Rattle.model.proofs.RowLaws.{flat}
 use Rattle.tracks.specs.declared.Part.{Part}
 use Rattle.tables.specs.declared.PrimitiveRow.{PrimitiveRow}
 use Rattle.tables.specs.Decoded.{Lent, primitive_of}
-use Rattle.checks.specs.Drawn.{sum_below}
 use Rattle.shapes.specs.declared.Lengths.{Lengths}
-use Rattle.shapes.specs.Rest.{primitives_in, row_lengths, plus_lengths, row_at, lengths_below, AtMost, RowFits, Counted, Drawable, PutAt, PutOut}
+use Rattle.shapes.specs.Rest.{primitives_in, row_lengths, plus_lengths, row_at, lengths_below, AtMost, Drawable, PutAt, PutOut}
 use Rattle.shapes.proofs.Sums.{sum-upto, sums-small, row-at-most, small, next-sum, no-sum}
 use Rattle.shapes.proofs.Putting.{Floats, floats-of, joined_below, joined-mapped, none-put, put-length, put_next}
 

@@ -1,5 +1,4 @@
 pub mod Sums
-pub mod Copying
 pub mod Shaping
 pub mod Morphing
 pub mod Baking

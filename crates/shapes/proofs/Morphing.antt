@@ -3,14 +3,13 @@ use mathlib.Core.Path.{◌≡◌, refl, sym, ap, ◌∙◌}
 use mathlib.Core.Bool.{Bool, true, false}
 use mathlib.Core.List.{List, [], ◌∷◌, ◌++◌}
 use mathlib.Core.Option.{Option, none, some}
-use Prim.Native.Nat.{ℕ, zero, suc}
 use lib.Ieee.{Float, eq}
 use lib.ListN.{take, drop}
 use Rattle.float.specs.F32.{zero32}
 use Rattle.model.specs.Lists.{pick, any_of, map_some, or_else}
 use Rattle.model.specs.Vector.{Vector, ◌⊙◌, ◌⊞◌}
 use Rattle.model.specs.Scene.{InBetween, Target, Primitive}
-use Rattle.model.specs.Morph.{Station, Segment, with_deltas, valid, stations, segment_from, between, plain_target, station_target, with_target, with_targets}
+use Rattle.model.specs.Morph.{Station, with_deltas, valid, stations, segment_from, between, plain_target, station_target, with_target, with_targets}
 use Rattle.model.specs.Vertices.{Shape}
 use Rattle.model.specs.Attributes.{shape_of}
 

@@ -17,7 +17,7 @@ use Rattle.model.specs.Matrix.{Matrix}
 use Rattle.model.specs.Vertices.{Shape}
 use Rattle.model.specs.Attributes.{over_rows, Reshaped}
 use Rattle.model.specs.Bake.{baked_primitive, written}
-use Rattle.model.proofs.RowLaws.{Rows, flat, flat-length}
+use Rattle.model.proofs.RowLaws.{flat, flat-length}
 use Rattle.model.proofs.Rowwise.{tabulate-more, map-tabulate}
 use Rattle.tracks.specs.declared.Part.{Part}
 use Rattle.tables.specs.declared.Slot.{Slot}
@@ -28,7 +28,6 @@ use Rattle.row_checks.specs.Places.{fits_in, slot_fits}
 use Rattle.checks.specs.Drawn.{sum_below}
 use Rattle.shapes.specs.declared.Lengths.{Lengths}
 use Rattle.shapes.specs.Rest.{slot_floats, Sized, slot_count, row_lengths, RowFits, PutAt}
-use Rattle.shapes.proofs.Shaping.{Rowed}
 use Rattle.shapes.proofs.Baking.{baked-rowed}
 
 -- ---- attributes that lie in the floats

@@ -1,46 +1,50 @@
 -- Blending and placing look at the vertices of a primitive alone, and keep their number. Assumes nothing.
 use mathlib.Core.Path.{◌≡◌, refl, sym, ap, ◌∙◌}
 use mathlib.Core.Bool.{Bool, true, false, ◌&&◌, true≢false, false≢true}
-use mathlib.Core.List.{List, [], ◌∷◌, ◌++◌, map}
+use mathlib.Core.List.{List, [], ◌∷◌, map}
 use mathlib.Core.Option.{Option, none, some}
-use Prim.Native.Nat.{ℕ, zero, suc, ◌+◌, ◌*◌, ◌/◌}
-use native.Mathlib.Omega.{arith}
+use Prim.Native.Nat.{ℕ, suc}
+use denote.Bor.{Bor}
 use lib.Dec.{ltb}
 use lib.Ieee.{Float}
 use lib.ListN.{length, length-map}
-use Rattle.float.specs.F32.{zero32}
-use Rattle.model.specs.Lists.{pick, any_of, indexed, rows_in, or_else}
+use Rattle.std.proofs.Common as rust
+use Rattle.std.proofs.Common.{Some, None}
+use Rattle.model.specs.Lists.{pick, indexed, or_else}
 use Rattle.model.specs.Vector.{Vector}
 use Rattle.model.specs.Matrix.{Matrix, determinant, linear, inverse_transpose}
 use Rattle.model.specs.Inverse.{normal_matrix}
-use Rattle.model.specs.Scene.{InBetween, Target, Primitive}
-use Rattle.model.specs.Morph.{Station, Segment, with_deltas, valid, stations, segment_from, between, plain_target, station_target, with_target, with_targets, morphed}
+use Rattle.model.specs.Scene.{Primitive}
 use Rattle.model.specs.Vertices.{Shape, affine_point, transformed_point, turned_normal, turned_tangent, joint_matrix, by_matrix, transformed, skinned}
-use Rattle.model.specs.Attributes.{attributes_in, shape_of, over_rows, Reshaped}
-use Rattle.model.specs.Bake.{placed_shape, baked_primitive}
-use Rattle.model.specs.Agree.{Each}
+use Rattle.model.specs.Attributes.{shape_of, over_rows, Reshaped}
+use Rattle.model.specs.Bake.{placed_shape}
 use Rattle.model.proofs.RowLaws.{Rows}
-use Rattle.model.proofs.Rowwise.{row_count, rows-in, rows-over, over-again}
+use Rattle.shapes.specs.Rest.{palette_in}
 use Rattle.vertex_rows.proofs.RowLengths.{point-length, normal-length, tangent-length, optional-length}
 use Rattle.vertex_rows.proofs.Turned.{tangent-by}
 
 -- ---- which of the two placings
-module _ (world : Matrix) (p : Primitive) (palette : List Matrix) (js : List (List ℕ)) (ws : List Vector) where
-  pub with-influences : (a b c : Bool) → (a && b && c) ≡ true
-      → placed_shape world (pick a (some palette) none) (pick b (some js) none) (pick c (some ws) none) p ≡ skinned palette js ws p
+module _ (world : Matrix) (p : Primitive) where
+  pub without-palette : (palette : rust.Option (Bor (List Float))) (js : Option (List (List ℕ))) (ws : Option (List Vector))
+      → ((x : Bor (List Float)) → palette ≡ Some x → ⊥) → placed_shape world (palette_in palette) js ws p ≡ transformed world p
   unfolding placed_shape
-  with-influences true true true h = refl
-  with-influences true true false h = absurd (false≢true h)
-  with-influences true false c h = absurd (false≢true h)
-  with-influences false b c h = absurd (false≢true h)
+  without-palette (Some x) js ws h = absurd (h x refl)
+  without-palette None js ws h = refl
 
-  pub without-influences : (a b c : Bool) → (a && b && c) ≡ false
-      → placed_shape world (pick a (some palette) none) (pick b (some js) none) (pick c (some ws) none) p ≡ transformed world p
-  unfolding placed_shape
-  without-influences true true true h = absurd (true≢false h)
-  without-influences true true false h = refl
-  without-influences true false c h = refl
-  without-influences false b c h = refl
+  module _ (palette : List Matrix) (js : List (List ℕ)) (ws : List Vector) where
+    pub with-influences : (b c : Bool) → (b && c) ≡ true
+        → placed_shape world (some palette) (pick b (some js) none) (pick c (some ws) none) p ≡ skinned palette js ws p
+    unfolding placed_shape
+    with-influences true true h = refl
+    with-influences true false h = absurd (false≢true h)
+    with-influences false c h = absurd (false≢true h)
+
+    pub without-influences : (b c : Bool) → (b && c) ≡ false
+        → placed_shape world (some palette) (pick b (some js) none) (pick c (some ws) none) p ≡ transformed world p
+    unfolding placed_shape
+    without-influences true true h = absurd (true≢false h)
+    without-influences true false h = refl
+    without-influences false c h = refl
 
 -- slices that hold the vertices of a shape, said of an equal one
 pub reshaped-as : (g h : Shape) (lp p ln n lt t : List Float) → g ≡ h → Reshaped g lp p ln n lt t → Reshaped h lp p ln n lt t
@@ -51,9 +55,6 @@ reshaped-as g h lp p ln n lt t e r = record {
 }
 
 -- ---- vertices alone
-shape-alike : (p q : Primitive) → p.positions ≡ q.positions → or_else p.normals [] ≡ or_else q.normals [] → or_else p.tangents [] ≡ or_else q.tangents [] → shape_of p ≡ shape_of q
-shape-alike p q a b c = λ j. record { positions = a j; normals = b j; tangents = c j }
-
 module _ (p q : Primitive) (e : shape_of p ≡ shape_of q) where
   transformed-alike : (m : Matrix) → transformed m p ≡ transformed m q
   unfolding transformed
@@ -82,16 +83,6 @@ pub record Rowed (s : Shape) (p n t : ℕ) : Type 0 where
   pub position-count : length s.positions ≡ p
   pub normal-count : length s.normals ≡ n
   pub tangent-count : length s.tangents ≡ t
-
-pub attributes-rowed : (p n t : List Float) → Rowed (shape_of (attributes_in p n t)) (length p / 3) (length n / 3) (length t / 4)
-attributes-rowed p n t = record {
-  positions = rows-in 3 p;
-  normals = rows-in 3 n;
-  tangents = rows-in 4 t;
-  position-count = row_count 3 p;
-  normal-count = row_count 3 n;
-  tangent-count = row_count 4 t;
-}
 
 rows-mapped : (w : ℕ) (f : Vector → Vector) (l : List Vector) → ((v : Vector) → length v ≡ w → length (f v) ≡ w) → Rows w l → Rows w (map f l)
 rows-mapped w f [] k h = tt

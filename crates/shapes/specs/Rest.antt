@@ -1,9 +1,11 @@
 -- The attributes of a primitive at rest, as they lie in the lent floats, and how many floats a mesh puts out.
 -- Definitions only.
-use Rattle.std.specs.Prelude.{◌≡◌, List, [], map, Bool, true, ℕ, ◌+◌, ◌*◌, ◌≤◌, ◌<◌, Float, length}
+use Rattle.std.specs.Prelude as rust
+use Rattle.std.specs.Prelude.{◌≡◌, List, [], map, true, ℕ, ◌+◌, ◌*◌, ◌≤◌, ◌<◌, Float, length}
+use Rattle.std.specs.Borrow.{Bor}
 use Rattle.std.proofs.Math.Option.{Option, none, some}
 use Rattle.std.proofs.Math.Seq.{paste}
-use Rattle.borrowed.specs.Slices.{SharedWords, SharedFloats, Floats}
+use Rattle.borrowed.specs.Slices.{SharedFloats, Floats}
 use Rattle.model.specs.Limits.{primitive_limit}
 use Rattle.model.specs.Lists.{pick, joined, rows_in}
 use Rattle.model.specs.Matrix.{Matrix}
@@ -12,7 +14,7 @@ use Rattle.model.specs.Vertices.{Shape}
 use Rattle.model.specs.Attributes.{attributes_in, Reshaped}
 use Rattle.model.specs.Bake.{Output, baked_primitive, output_of, written}
 use Rattle.tracks.specs.declared.Part.{Part}
-use Rattle.tables.specs.declared.Header.{Header}
+use Rattle.tables.specs.declared.Lent as code
 use Rattle.tables.specs.declared.Slot.{Slot}
 use Rattle.tables.specs.declared.PrimitiveRow.{PrimitiveRow}
 use Rattle.tables.specs.Records.{primitive_row}
@@ -52,24 +54,25 @@ ShapedAs s floats r positions normals tangents =
     (slot_floats floats r.tangents 4) tangents.exit.now
 
 -- the palette, if there is one
-abbrev pub palette_in : Bool → List Float → Option (List Matrix)
-palette_in there palette = pick there (some (rows_in 16 palette)) none
+abbrev pub palette_in : rust.Option (Bor (List Float)) → Option (List Matrix)
+palette_in (rust.Some floats) = some (rows_in 16 floats.now)
+palette_in rust.None = none
 
 -- the primitives of a mesh
 abbrev pub primitives_in : Lent → Part → List scene.Primitive
 primitives_in l m = records_in (λ i. primitive_of l (primitive_row l.words l.header.meshes.primitives i)) m
 
 -- a primitive that is blended with weights, and placed by a world and a palette, if there is one
-abbrev pub baked_as : SharedWords → SharedFloats → Header → PrimitiveRow → SharedFloats → Matrix → Bool → SharedFloats → Shape
-baked_as words floats h row weights world there palette =
-    baked_primitive world (palette_in there palette.entry.now) weights.entry.now
-    (primitive_of (lent_as words.entry.now floats.entry.now [] [] h) row)
+abbrev pub baked_as : code.Lent → PrimitiveRow → SharedFloats → Matrix → rust.Option (Bor (List Float)) → Shape
+baked_as l row weights world palette =
+    baked_primitive world (palette_in palette) weights.entry.now
+    (primitive_of (lent_as l.words.now l.floats.now [] [] l.header) row)
 
 -- all primitives of a mesh
-abbrev pub baked_mesh : SharedWords → SharedFloats → Header → Part → SharedFloats → Matrix → Bool → SharedFloats → Output
-baked_mesh words floats h m weights world there palette =
-    output_of (map (baked_primitive world (palette_in there palette.entry.now) weights.entry.now)
-    (primitives_in (lent_as words.entry.now floats.entry.now [] [] h) m))
+abbrev pub baked_mesh : code.Lent → Part → SharedFloats → Matrix → rust.Option (Bor (List Float)) → Output
+baked_mesh l m weights world palette =
+    output_of (map (baked_primitive world (palette_in palette) weights.entry.now)
+    (primitives_in (lent_as l.words.now l.floats.now [] [] l.header) m))
 
 -- ---- how many floats: three a position or normal, four a tangent
 

@@ -1,6 +1,8 @@
 ghost use Rattle.std.specs.Prelude.{◌≡◌, length};
+ghost use Rattle.borrowed.specs.Attributes.{SameSlices};
 ghost use Rattle.shapes.specs.Rest.{slot_floats, Sized, AtRest};
 
+use borrowed::Vertices;
 use tables::{PrimitiveRow, Slot};
 
 // The floats of an attribute, none where it is absent.
@@ -22,18 +24,12 @@ fn copy(from: &[f32], to: &mut [f32])
 }
 
 // The attributes of a primitive at rest.
-pub(crate) fn copy_rest(
-    floats: &[f32],
-    row: PrimitiveRow,
-    positions: &mut [f32],
-    normals: &mut [f32],
-    tangents: &mut [f32],
-)
-    requires { Sized floats.now row positions.old normals.old tangents.old }
-    ensures { AtRest floats.now row positions.new normals.new
-        tangents.new }
+pub(crate) fn copy_rest(floats: &[f32], row: PrimitiveRow, out: &mut Vertices<'_>)
+    requires { Sized floats.now row out.old.positions.now out.old.normals.now out.old.tangents.now }
+    ensures at_rest { AtRest floats.now row out.new.positions.now out.new.normals.now out.new.tangents.now }
+    ensures same_slices { SameSlices out.old out.new }
 {
-    copy(tables::floats_in(floats, row.positions, 3), positions);
-    copy(slot_floats(floats, row.normals, 3), normals);
-    copy(slot_floats(floats, row.tangents, 4), tangents);
+    copy(tables::floats_in(floats, row.positions, 3), out.positions);
+    copy(slot_floats(floats, row.normals, 3), out.normals);
+    copy(slot_floats(floats, row.tangents, 4), out.tangents);
 }

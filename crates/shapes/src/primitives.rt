@@ -1,3 +1,4 @@
+ghost use Rattle.borrowed.specs.Attributes.{positions_in, normals_in, tangents_in, SameSlices};
 ghost use Rattle.borrowed.specs.InPlace.{InPlace};
 ghost use Rattle.model.specs.Morph.{with_targets};
 ghost use Rattle.model.specs.Attributes.{shape_of};
@@ -7,9 +8,10 @@ ghost use Rattle.mesh.specs.Lent.{targets_in};
 ghost use Rattle.shapes.specs.Rest.{attributes_at, Sized, ShapedAs, palette_in, baked_as};
 
 use crate::parts::copy_rest;
+use borrowed::Vertices;
 use scene::Mat4;
-use tables::{Header, PrimitiveRow};
-use tracks::Part;
+use tables::{Lent, PrimitiveRow};
+use vertex_rows::Influences;
 
 // With a palette, and joints and weights present: skinned; otherwise transformed.
 fn place_shape(
@@ -17,89 +19,64 @@ fn place_shape(
     floats: &[f32],
     row: PrimitiveRow,
     world: Mat4,
-    has_palette: bool,
-    palette: &[f32],
-    positions: &mut [f32],
-    normals: &mut [f32],
-    tangents: &mut [f32],
+    palette: Option<&[f32]>,
+    out: &mut Vertices<'_>,
 )
-    ensures { InPlace (placed_shape world.m (palette_in has_palette palette.now)
-        (slot_in words.now row.joints 4) (slot_in floats.now row.weights 4)) positions
-        normals tangents }
+    ensures moved { InPlace (placed_shape world.m (palette_in palette.entry)
+        (slot_in words.now row.joints 4) (slot_in floats.now row.weights 4))
+        (positions_in out) (normals_in out) (tangents_in out) }
+    ensures same_slices { SameSlices out.old out.new }
 {
     let joints = row.joints;
     let weights = row.weights;
-    if has_palette & tables::is_marked(joints.mark) & tables::is_marked(weights.mark) {
-        skinning::skinned(
-            palette,
-            tables::words_in(words, joints.part, 4),
-            tables::floats_in(floats, weights.part, 4),
-            positions,
-            normals,
-            tangents,
-        );
-        return;
+    let is_influenced = tables::is_marked(joints.mark) & tables::is_marked(weights.mark);
+    match palette {
+        Some(palette) if is_influenced => {
+            let by = Influences {
+                palette,
+                joints: tables::words_in(words, joints.part, 4),
+                weights: tables::floats_in(floats, weights.part, 4),
+            };
+            skinning::skinned(by, out);
+        }
+        _ => transform::transformed(world, out),
     }
-    transform::transformed(world, positions, normals, tangents);
 }
 
 // The vertices of a primitive, blended with its morph targets.
-fn blend_primitive(
-    words: &[u32],
-    floats: &[f32],
-    h: Header,
-    row: PrimitiveRow,
-    weights: &[f32],
-    positions: &mut [f32],
-    normals: &mut [f32],
-    tangents: &mut [f32],
-)
-    requires { Sized floats.now row positions.old normals.old tangents.old }
-    ensures { ShapedAs (shape_of (with_targets
-        (targets_in words.now floats.now h row.targets) weights.now
-        (attributes_at floats.now row))) floats.now row positions normals tangents }
+fn blend_primitive(lent: Lent, row: PrimitiveRow, weights: &[f32], out: &mut Vertices<'_>)
+    requires { Sized lent.floats.now row out.old.positions.now out.old.normals.now out.old.tangents.now }
+    ensures shaped { ShapedAs (shape_of (with_targets
+        (targets_in lent.entry.words.now lent.entry.floats.now lent.entry.header row.targets) weights.now
+        (attributes_at lent.entry.floats.now row)))
+        lent.entry.floats.now row (positions_in out) (normals_in out) (tangents_in out) }
+    ensures same_slices { SameSlices out.old out.new }
 {
-    copy_rest(floats, row, positions, normals, tangents);
-    mesh::morphed(
-        words,
-        floats,
-        h,
-        row.targets,
-        weights,
-        positions,
-        normals,
-        tangents,
-    );
+    copy_rest(lent.floats, row, out);
+    mesh::morphed(lent, row.targets, weights, out);
 }
 
 // The vertices of a primitive, blended and placed.
+// Three slices; tried as a `Vertices`: of parts of slices lent in a struct, Rattle does not tell what is left.
 pub(crate) fn bake_primitive(
-    words: &[u32],
-    floats: &[f32],
-    h: Header,
+    lent: Lent,
     row: PrimitiveRow,
     weights: &[f32],
     world: Mat4,
-    has_palette: bool,
-    palette: &[f32],
+    palette: Option<&[f32]>,
     positions: &mut [f32],
     normals: &mut [f32],
     tangents: &mut [f32],
 )
-    requires { Sized floats.now row positions.old normals.old tangents.old }
-    ensures { ShapedAs (baked_as words floats h row weights world.m has_palette palette)
-        floats.now row positions normals tangents }
+    requires { Sized lent.floats.now row positions.old normals.old tangents.old }
+    ensures { ShapedAs (baked_as lent.entry row weights world.m palette.entry)
+        lent.entry.floats.now row positions normals tangents }
 {
-    blend_primitive(words, floats, h, row, weights, positions, normals, tangents);
-    place_shape(
-        words,
-        floats,
-        row,
-        world,
-        has_palette,
-        palette,
+    let mut out = Vertices {
         positions,
         normals,
         tangents,
-    );
+    };
+    blend_primitive(lent, row, weights, &mut out);
+    place_shape(lent.words, lent.floats, row, world, palette, &mut out);
 }

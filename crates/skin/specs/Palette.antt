@@ -2,7 +2,6 @@
 -- weights". Definitions only.
 use Rattle.std.specs.Prelude as rust
 use Rattle.std.specs.Prelude.{◌≡◌, Bool, ◌&&◌, List, [], ◌++◌, ℕ, ◌*◌, ltb, leb, Float, length, get_or, drop}
-use Rattle.std.proofs.Math.Option.{Option, none, some}
 use Rattle.borrowed.specs.Slices.{Change}
 use Rattle.model.specs.Lists.{pick, tabulate, rows_in, joined, is_some, or_else, map_some}
 use Rattle.model.specs.Refusals.{number, no_palette}

@@ -14,7 +14,7 @@ mod skeletons;
 mod weights;
 
 pub use calls::joint_matrices_with;
-pub use palette::{palette_count, write_palette};
+pub use palette::{is_placed, palette_count, write_palette};
 pub use weights::{check_weights, effective_morph_weights, has_mesh, row_has_mesh, weights_of};
 
 // A refusal number, or 0, and how many floats were written: what a C function answers.

@@ -9,14 +9,13 @@ ghost use Rattle.skin.specs.Palette.{has_world, skeleton_in, bind_in, palette_in
 
 use crate::skeletons::skeleton_of;
 use scene::Mat4;
-use skin_roots::wide;
-use tables::Header;
+use tables::Lent;
 
 // Whether node j of n has a world.
-fn is_placed(j: u32, n: usize, places: &[u32]) -> bool
+pub fn is_placed(j: u32, n: usize, places: &[u32]) -> bool
     ensures { result ≡ has_world n places.now j }
 {
-    let i = wide(j);
+    let i = j as usize;
     if i < n {
         if i < places.len() {
             return tables::is_marked(places[i]);
@@ -53,20 +52,15 @@ fn is_whole(joints: &[u32], binds: &[f32], n: usize, places: &[u32]) -> bool
 
 // How many joint matrices the palette of a skin has, with the codes of the nodes' places; it does not hang on the
 // worlds.
-pub fn palette_count(
-    words: &[u32],
-    floats: &[f32],
-    h: Header,
-    skin: u32,
-    places: &[u32],
-) -> Option<usize>
-    ensures { Counted words.now floats.now h skin places.now result }
+pub fn palette_count(lent: Lent, skin: u32, places: &[u32]) -> Option<usize>
+    ensures { Counted lent.entry.words.now lent.entry.floats.now lent.entry.header skin places.now result }
 {
-    let Some(row) = skeleton_of(words, h, skin) else {
+    let h = lent.header;
+    let Some(row) = skeleton_of(lent.words, h, skin) else {
         return None;
     };
-    let joints = tables::words_in(words, row.joints, 1);
-    let binds = tables::floats_in(floats, row.inverse_binds, 16);
+    let joints = tables::words_in(lent.words, row.joints, 1);
+    let binds = tables::floats_in(lent.floats, row.inverse_binds, 16);
     if is_whole(joints, binds, h.graph.nodes.count, places) {
         return Some(joints.len());
     }
@@ -87,7 +81,7 @@ fn bind_at(binds: &[f32], at: usize) -> Mat4
 fn joint_matrix(joint: u32, worlds: &[f32], binds: &[f32], at: usize) -> Mat4
     ensures { result.m ≡ mul (matrix_in worlds.now (joint * 16)) (bind_in binds.now at) }
 {
-    scene::mat4_mul(scene::load(worlds, wide(joint) * 16), bind_at(binds, at))
+    scene::mat4_mul(scene::load(worlds, joint as usize * 16), bind_at(binds, at))
 }
 
 // Writes the matrix of each joint to the start of `out`.
@@ -120,22 +114,15 @@ fn lay_out(joints: &[u32], binds: &[f32], n: usize, places: &[u32], worlds: &[f3
 }
 
 // Writes the palette of a skin to the start of `out`, if there is one and `out` has room for it.
-pub fn write_palette(
-    words: &[u32],
-    floats: &[f32],
-    h: Header,
-    skin: u32,
-    places: &[u32],
-    worlds: &[f32],
-    out: &mut [f32],
-)
-    ensures { Laid words.now floats.now h skin places.now
+pub fn write_palette(lent: Lent, skin: u32, places: &[u32], worlds: &[f32], out: &mut [f32])
+    ensures { Laid lent.entry.words.now lent.entry.floats.now lent.entry.header skin places.now
         worlds.now (change out) }
 {
-    let Some(row) = skeleton_of(words, h, skin) else {
+    let h = lent.header;
+    let Some(row) = skeleton_of(lent.words, h, skin) else {
         return;
     };
-    let joints = tables::words_in(words, row.joints, 1);
-    let binds = tables::floats_in(floats, row.inverse_binds, 16);
+    let joints = tables::words_in(lent.words, row.joints, 1);
+    let binds = tables::floats_in(lent.floats, row.inverse_binds, 16);
     lay_out(joints, binds, h.graph.nodes.count, places, worlds, out);
 }

@@ -1,6 +1,5 @@
 ghost use Rattle.skin.specs.Skeletons.{BoundTo};
 
-use skin_roots::wide;
 use tables::{Header, SkeletonRow};
 
 // The skeleton of a skin, if both ids name something.
@@ -8,12 +7,12 @@ pub(crate) fn skeleton_of(words: &[u32], h: Header, skin: u32) -> Option<Skeleto
     ensures { BoundTo words.now h skin result }
 {
     let skins = h.skins;
-    let k = wide(skin);
+    let k = skin as usize;
     if skins.skins.count <= k {
         return None;
     }
     let row = tables::skin_row(words, skins.skins, k);
-    let b = wide(row.skeleton);
+    let b = row.skeleton as usize;
     if skins.skeletons.count <= b {
         return None;
     }

@@ -1,11 +1,10 @@
 ghost use Rattle.std.specs.Prelude.{◌≡◌};
 ghost use Rattle.refusals.specs.Drawn.{number_drawn};
-ghost use Rattle.checks.specs.Drawn.{scene_lent};
+ghost use Rattle.tables.specs.Decoded.{lent_of};
 ghost use Rattle.skin.specs.Weights.{names_mesh, Meshed, Effective, weights_number_for, weights_for};
 
 use refusals::Refusal;
-use skin_roots::wide;
-use tables::{Header, MeshRow, NodeRow};
+use tables::{Header, Lent, MeshRow, NodeRow};
 
 // The weights that a node and its mesh say: the node's own, if it has any, otherwise the mesh's.
 pub fn weights_of<'a>(
@@ -31,7 +30,7 @@ pub fn row_has_mesh(row: NodeRow, h: Header) -> bool
     ensures { result ≡ names_mesh row h }
 {
     if tables::is_marked(row.mesh.mark) {
-        return wide(row.mesh.id) < h.meshes.meshes.count;
+        return (row.mesh.id as usize) < h.meshes.meshes.count;
     }
     false
 }
@@ -40,7 +39,7 @@ pub fn row_has_mesh(row: NodeRow, h: Header) -> bool
 pub fn has_mesh(words: &[u32], h: Header, node: u32) -> bool
     ensures { Meshed words.now h node result }
 {
-    let i = wide(node);
+    let i = node as usize;
     let nodes = h.graph.nodes;
     if nodes.count <= i {
         return false;
@@ -49,39 +48,26 @@ pub fn has_mesh(words: &[u32], h: Header, node: u32) -> bool
 }
 
 // What a call for the weights of a node's mesh draws.
-pub fn check_weights(
-    words: &[u32],
-    floats: &[f32],
-    node_weights: &[f32],
-    mesh_weights: &[f32],
-    h: Header,
-    node: u32,
-) -> Result<(), Refusal>
-    ensures { number_drawn result
-        ≡ weights_number_for (scene_lent words floats node_weights mesh_weights h) node }
+pub fn check_weights(lent: Lent, node: u32) -> Result<(), Refusal>
+    ensures { number_drawn result ≡ weights_number_for (lent_of lent.entry) node }
 {
-    checks::check_tables(words, floats, node_weights, mesh_weights, h)?;
-    if has_mesh(words, h, node) {
+    let h = lent.header;
+    checks::check_tables(lent)?;
+    if has_mesh(lent.words, h, node) {
         return Ok(());
     }
     Err(Refusal::NoSuchNode)
 }
 
 // The weights that a node's mesh is blended with, where they lie; the empty part where the call is refused.
-pub fn effective_morph_weights<'a>(
-    words: &[u32],
-    floats: &[f32],
-    node_weights: &'a [f32],
-    mesh_weights: &'a [f32],
-    h: Header,
-    node: u32,
-) -> &'a [f32]
-    ensures { result.now ≡ weights_for (scene_lent words floats node_weights mesh_weights h) node }
+pub fn effective_morph_weights<'a>(lent: Lent<'a>, node: u32) -> &'a [f32]
+    ensures { result.now ≡ weights_for (lent_of lent.entry) node }
 {
-    if check_weights(words, floats, node_weights, mesh_weights, h, node).is_err() {
-        return &node_weights[0..0];
+    if check_weights(lent, node).is_err() {
+        return &lent.node_weights[0..0];
     }
-    let row = tables::node_row(words, h.graph.nodes, wide(node));
-    let mesh = tables::mesh_row(words, h.meshes.meshes, wide(row.mesh.id));
-    weights_of(node_weights, mesh_weights, row, mesh)
+    let h = lent.header;
+    let row = tables::node_row(lent.words, h.graph.nodes, node as usize);
+    let mesh = tables::mesh_row(lent.words, h.meshes.meshes, row.mesh.id as usize);
+    weights_of(lent.node_weights, lent.mesh_weights, row, mesh)
 }

@@ -9,7 +9,7 @@ ghost use Rattle.skin_entries.specs.Handed.{Weighed};
 
 use skin::Answer;
 use skin_roots::Root;
-use tables::Header;
+use tables::{Header, Lent};
 
 // Writes the palette of a node, from worlds that are given, to the start of `out`. Answers 1, 2, 6, 7, 9, 10 or 0.
 #[unsafe(no_mangle)]
@@ -27,17 +27,14 @@ pub extern "C" fn mesh3d_joint_matrices_floats(
     ensures { Answered (scene_lent words floats node_weights mesh_weights header) node places.now
         worlds.now (change out) result }
 {
-    Answer::from(skin::joint_matrices_with(
+    let lent = Lent {
         words,
         floats,
         node_weights,
         mesh_weights,
         header,
-        node,
-        places,
-        worlds,
-        out,
-    ))
+    };
+    Answer::from(skin::joint_matrices_with(lent, node, places, worlds, out))
 }
 
 // The root of a skin. Answers 1, 2, 11 or 0, and the node.
@@ -52,31 +49,38 @@ pub extern "C" fn mesh3d_skin_root(
 ) -> Root
     ensures { RootAnswered (scene_lent words floats node_weights mesh_weights header) skin result }
 {
-    Root::from(skin_roots::skin_root(words, floats, node_weights, mesh_weights, header, skin))
+    let lent = Lent {
+        words,
+        floats,
+        node_weights,
+        mesh_weights,
+        header,
+    };
+    Root::from(skin_roots::skin_root(lent, skin))
 }
 
 // Copies the weights that a node's mesh is blended with to the start of `out`. Answers 1, 2, 7, 10 or 0, and how many
 // floats were copied.
 #[unsafe(no_mangle)]
-pub extern "C" fn mesh3d_effective_weights_floats<'a>(
+pub extern "C" fn mesh3d_effective_weights_floats(
     words: &[u32],
     floats: &[f32],
-    node_weights: &'a [f32],
-    mesh_weights: &'a [f32],
+    node_weights: &[f32],
+    mesh_weights: &[f32],
     header: Header,
     node: u32,
     out: &mut [f32],
 ) -> Answer
     ensures { Weighed (scene_lent words floats node_weights mesh_weights header) node out result }
 {
-    let drawn = skin::check_weights(words, floats, node_weights, mesh_weights, header, node);
-    let weights = skin::effective_morph_weights(
+    let lent = Lent {
         words,
         floats,
         node_weights,
         mesh_weights,
         header,
-        node,
-    );
+    };
+    let drawn = skin::check_weights(lent, node);
+    let weights = skin::effective_morph_weights(lent, node);
     Answer::from(outputs::copy_out(drawn, weights, out))
 }

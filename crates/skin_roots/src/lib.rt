@@ -9,7 +9,6 @@ use refusals::Refusal;
 mod lines;
 mod roots;
 
-pub use lines::wide;
 pub use roots::skin_root;
 
 // A refusal number, or 0, and the id of a node: what a C function answers.

@@ -1,28 +1,65 @@
 // The line of a node: the node and those above it, by the marks of `graph::parents`. A code is 0 or 1 where nothing is
 // above, and p + 3 for node p.
-ghost use Rattle.std.specs.Prelude.{◌≡◌, ◌+◌, ◌≤◌, ◌<◌, eqb, length, get_or};
+ghost use Rattle.std.specs.Prelude.{◌≡◌, ◌≤◌, ◌<◌, eqb, length, get_or};
 ghost use Rattle.model.specs.Limits.{node_limit};
 ghost use Rattle.model.specs.Lists.{foldl, first_that};
 ghost use Rattle.tables.specs.Tags.{option_of};
-ghost use Rattle.skin_roots.specs.Lines.{code_above, line_in, count_one, Leading};
+ghost use Rattle.skin_roots.specs.Lines.{line_in, count_one, Leading};
+ghost use Rattle.skin_roots.specs.Line.{nodes_left};
 
-pub fn wide(x: u32) -> usize
-    ensures { (result ≡ x) × (result < 4294967296) }
-{
-    x as usize
+// The nodes of a line that are left: the code of the next one, and how many are taken at most, so that a line that goes
+// round ends.
+#[derive(Drop)]
+struct Line<'a> {
+    codes: &'a [u32],
+    code: u32,
+    left: usize,
 }
 
-// The code of what is above node a, with so many nodes of the line left to take.
-fn above(codes: &[u32], a: usize, left: usize) -> u32
-    ensures { result ≡ code_above codes.now a left }
-{
-    if left == 0 {
-        return 0;
+impl Iterator for Line<'_> {
+    ghost use Rattle.std.specs.Iterator.{YieldsFirst, item_count};
+    ghost use Rattle.skin_roots.specs.Line.{nodes_left};
+
+    type Item = u32;
+
+    ghost next_gives = { YieldsFirst nodes_left };
+
+    ghost remaining = { item_count nodes_left };
+
+    fn next(&mut self) -> Option<u32> {
+        if self.code < 3 {
+            return None;
+        }
+        if self.left == 0 {
+            return None;
+        }
+        let id = self.code - 3;
+        self.left -= 1;
+        self.code = above(self.codes, id as usize);
+        Some(id)
     }
+}
+
+// The code of what is above node a.
+fn above(codes: &[u32], a: usize) -> u32
+    ensures { result ≡ get_or codes.now a 0 }
+{
     if a < codes.len() {
         return codes[a];
     }
     0
+}
+
+// The line of a node.
+fn line_of(codes: &[u32], node: u32) -> Line<'_>
+    requires { (length codes.now ≤ node_limit) × (node < node_limit) }
+    ensures { nodes_left result ≡ line_in codes.now node }
+{
+    Line {
+        codes,
+        code: node + 3,
+        left: codes.len() + 1,
+    }
 }
 
 // Counts node a if it was on the lines of all t joints before; one that missed a line stays behind.
@@ -37,19 +74,14 @@ fn count_one(counts: &mut [usize], a: usize, t: usize)
     }
 }
 
-// Counts the nodes of the line of joint t: a `while`, since it goes up from node to node.
+// Counts the nodes of the line of joint t.
 fn count_line(codes: &[u32], joint: u32, t: usize, counts: &mut [usize])
     requires { (length codes.now ≤ node_limit) × (joint < node_limit) × (t < 18446744073709551615) }
     ensures { counts.new ≡ foldl (count_one t) counts.old
         (line_in codes.now joint) }
 {
-    let mut left = codes.len() + 1;
-    let mut code = joint + 3;
-    while 2 < code {
-        let a = wide(code - 3);
-        count_one(counts, a, t);
-        left -= 1;
-        code = above(codes, a, left);
+    for a in line_of(codes, joint) {
+        count_one(counts, a as usize, t);
     }
 }
 
@@ -75,22 +107,16 @@ fn stands_at(counts: &[usize], a: usize, m: usize) -> bool
     m == 0
 }
 
-// The first node of a line that is counted m times, from node to node as above.
+// The first node of a line that is counted m times.
 pub(crate) fn first_counted(codes: &[u32], joint: u32, counts: &[usize], m: usize) -> Option<u32>
     requires { (length codes.now ≤ node_limit) × (joint < node_limit) }
     ensures { option_of result ≡ first_that (λ a. eqb (get_or counts.now a 0) m)
         (line_in codes.now joint) }
 {
-    let mut left = codes.len() + 1;
-    let mut code = joint + 3;
-    while 2 < code {
-        let id = code - 3;
-        let a = wide(id);
-        if stands_at(counts, a, m) {
-            return Some(id);
+    for a in line_of(codes, joint) {
+        if stands_at(counts, a as usize, m) {
+            return Some(a);
         }
-        left -= 1;
-        code = above(codes, a, left);
     }
     None
 }

@@ -3,20 +3,20 @@ ghost use Rattle.std.proofs.Math.Option.{none, some};
 ghost use Rattle.model.specs.Limits.{node_limit};
 ghost use Rattle.model.specs.Lists.{pick, every};
 ghost use Rattle.tables.specs.Tags.{option_of};
-ghost use Rattle.checks.specs.Drawn.{scene_lent};
+ghost use Rattle.tables.specs.Decoded.{lent_of};
 ghost use Rattle.skin_roots.specs.Lines.{Inside, common_in};
 ghost use Rattle.skin_roots.specs.Roots.{Rooted, answer_of, RootAnswered};
 
-use crate::lines::{count_lines, first_counted, wide};
+use crate::lines::{count_lines, first_counted};
 use refusals::{NODE_LIMIT, Refusal};
-use tables::Header;
+use tables::{Header, Lent};
 
 // Whether every joint is one of n nodes.
 fn all_nodes(joints: &[u32], n: usize) -> bool
     ensures { result ≡ every (λ j. ltb j n) joints.now }
 {
     for i in 0..joints.len() {
-        if n <= wide(joints[i]) {
+        if n <= joints[i] as usize {
             return false;
         }
     }
@@ -43,7 +43,7 @@ fn common_root(codes: &[u32], joints: &[u32]) -> Option<u32>
 fn in_range(id: u32, n: usize) -> Option<u32>
     ensures { option_of result ≡ pick (ltb id n) (some id) none }
 {
-    if wide(id) < n {
+    if (id as usize) < n {
         return Some(id);
     }
     None
@@ -56,7 +56,7 @@ fn root_of(words: &[u32], h: Header, skin: u32, codes: &[u32]) -> Option<u32>
     ensures { Rooted words.now h skin codes.now result }
 {
     let skins = h.skins;
-    let k = wide(skin);
+    let k = skin as usize;
     if skins.skins.count <= k {
         return None;
     }
@@ -64,7 +64,7 @@ fn root_of(words: &[u32], h: Header, skin: u32, codes: &[u32]) -> Option<u32>
     if row.root.mark != 0 {
         return in_range(row.root.id, codes.len());
     }
-    let b = wide(row.skeleton);
+    let b = row.skeleton as usize;
     if skins.skeletons.count <= b {
         return None;
     }
@@ -73,20 +73,14 @@ fn root_of(words: &[u32], h: Header, skin: u32, codes: &[u32]) -> Option<u32>
 }
 
 // The root of a skin: the node that it names, or the nearest one that is above all joints.
-pub fn skin_root(
-    words: &[u32],
-    floats: &[f32],
-    node_weights: &[f32],
-    mesh_weights: &[f32],
-    h: Header,
-    skin: u32,
-) -> Result<u32, Refusal>
-    ensures { RootAnswered (scene_lent words floats node_weights mesh_weights h) skin (answer_of result) }
+pub fn skin_root(lent: Lent, skin: u32) -> Result<u32, Refusal>
+    ensures { RootAnswered (lent_of lent.entry) skin (answer_of result) }
 {
     let mut marks = [0u32; NODE_LIMIT];
-    graph::parents(words, floats, node_weights, mesh_weights, h, &mut marks)?;
+    let h = lent.header;
+    graph::parents(lent, &mut marks)?;
     let n = h.graph.nodes.count;
-    match root_of(words, h, skin, &marks[..n]) {
+    match root_of(lent.words, h, skin, &marks[..n]) {
         Some(node) => Ok(node),
         None => Err(Refusal::NoCommonRoot),
     }

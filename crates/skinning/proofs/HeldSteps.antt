@@ -1,6 +1,6 @@
 -- Sixteen vertices whose directions are held back, one by one. Assumes nothing.
 use mathlib.Core.Path.{◌≡◌, refl, sym, ap, subst, ◌∙◌}
-use mathlib.Core.Bool.{Bool, true, false, true≢false, ◌||◌}
+use mathlib.Core.Bool.{Bool, true, false, true≢false}
 use mathlib.Core.Option.{Option, some}
 use mathlib.Core.List.{List}
 use Prim.Native.Nat.{ℕ, ◌+◌, ◌*◌, ◌/◌, ◌≤◌}
@@ -11,10 +11,10 @@ use lib.Seq.{paste, take-take}
 use Rattle.float.specs.F32.{zero32}
 use Rattle.model.specs.Lists.{pick, and_then, map_some, row}
 use Rattle.model.specs.Vector.{Vector}
-use Rattle.model.specs.Matrix.{Matrix, linear, turned, determinant, inverse_transpose}
+use Rattle.model.specs.Matrix.{Matrix, linear, determinant, inverse_transpose}
 use Rattle.model.specs.Vertices.{by_matrix, affine_point, turned_normal, turned_tangent, joint_matrix}
 use Rattle.model.proofs.Rowwise.{row-length}
-use Rattle.scene.specs.Values.{mat3, linear_of, matrix_of}
+use Rattle.scene.specs.Values.{linear_of, matrix_of}
 use Rattle.scene.specs.declared.Mat3.{Mat3}
 use Rattle.scene.specs.declared.Mat4.{Mat4}
 use Rattle.std.proofs.Common as rust
@@ -33,14 +33,6 @@ use Rattle.skinning.proofs.Moved.{turned-length, next_row}
 -- ---- one vertex
 pub held-not : (whole : Bool) (i : ℕ) (x : Vector) (l : List Float) → whole ≡ false → HeldOne whole i x l l
 held-not whole i x l f = record { stored = λ t. absurd (true≢false (sym t ∙ f)) }
-
--- by a linear part, if there is one
-module _ (l : rust.Option Mat3) (v : Vector) where
-  pub direction-of : (m : Mat3) (x : Vector) → l ≡ rust.Some m → x ≡ turned (mat3 m) v → x ≡ direction_by (linear_of l) v
-  direction-of m x e p = p ∙ sym (ap (λ (y : rust.Option Mat3). direction_by (linear_of y) v) e)
-
-  pub no-direction : l ≡ rust.None → zeros ≡ direction_by (linear_of l) v
-  no-direction e = sym (ap (λ (y : rust.Option Mat3). direction_by (linear_of y) v) e)
 
 -- a normal by the linear part l
 pub held-normal : (whole : Bool) (m : Matrix) (normals : List Float) (v i : ℕ) (lent left : List Float) (l : rust.Option Mat3) (n d : Vector) → linear_of l ≡ inverse_transpose m → n ≡ row 3 normals v → d ≡ direction_by (linear_of l) n
@@ -104,7 +96,3 @@ module _ (palette : List Matrix) (joints : List (List ℕ)) (weights : List Vect
         (λ i b. ap (λ (x : Vector). unit_over (direction_by (map_some linear (jointed i)) x) (by_matrix handed (jointed i) (row 4 lt (k + i)))) (sym (take-take 3 4 (drop ((k + i) * 4) lt) (omega arith))) ∙ tangent-unit (jointed i) (row 4 lt (k + i)) (row-length 4 lt (k + i) b))
         whole.tangents at nt f.tangents f.tangent et;
   }
-
-pub neither : (a b : Bool) → (a || b) ≡ false → (a ≡ false) × (b ≡ false)
-neither true b e = absurd (true≢false e)
-neither false b e = (refl, e)

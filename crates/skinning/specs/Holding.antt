@@ -4,11 +4,13 @@ use Rattle.std.proofs.Math.Option.{Option, none, some}
 use Rattle.std.specs.Float.Ieee.{lt}
 use Rattle.std.proofs.Math.Seq.{paste}
 use Rattle.float.specs.F32.{zero32}
-use Rattle.borrowed.specs.Slices.{SharedWords, SharedFloats, Floats}
+use Rattle.borrowed.specs.Slices.{Floats}
+use Rattle.borrowed.specs.Attributes.{Attributes}
 use Rattle.model.specs.Lists.{pick, part, row, rows_in, and_then, map_some}
 use Rattle.model.specs.Vector.{Vector}
 use Rattle.model.specs.Matrix.{Matrix, linear, turned, determinant, inverse_transpose}
 use Rattle.model.specs.Vertices.{by_matrix, affine_point, joint_matrix}
+use Rattle.vertex_rows.specs.declared.influences.Influences.{Influences}
 use Rattle.vertex_rows.specs.Rows.{flipped, row_changed}
 use Rattle.transform.specs.Blocks.{rows_from, Packed}
 use Rattle.skinning.specs.declared.holding.Whole.{Whole}
@@ -47,21 +49,15 @@ pub record Held (whole : Whole) (o : Option Matrix) (v i : ℕ)
   pub normal : HeldOne whole.normals i (direction_by (and_then o inverse_transpose) (row 3 normals v)) lent_n left_n
   pub tangent : HeldOne whole.tangents i (direction_by (map_some linear o) (part lent_tangents (v * 4) 3)) lent_t left_t
 
--- in the slices that are borrowed
-abbrev pub HoldsDirections : Whole → Option Matrix → ℕ → ℕ → SharedFloats → Floats → Floats → Floats → Type 0
-HoldsDirections whole o v i normals tangents n t =
-    Held whole o v i normals.entry.now tangents.entry.now tangents.exit.now
-    n.entry.now n.exit.now t.entry.now t.exit.now
-
 pub record HeldVertex (whole : Whole) (o : Option Matrix) (v i : ℕ)
     (lent_positions left_positions normals lent_tangents left_tangents lent_n left_n lent_t left_t : List Float) : Type 0 where
   pub positions : left_positions ≡ row_changed 3 (by_matrix affine_point o) v lent_positions
   pub directions : Held whole o v i normals lent_tangents left_tangents lent_n left_n lent_t left_t
 
-abbrev pub HoldsVertex : Whole → Option Matrix → ℕ → ℕ → Floats → SharedFloats → Floats → Floats → Floats → Type 0
-HoldsVertex whole o v i positions normals tangents n t =
-    HeldVertex whole o v i positions.entry.now positions.exit.now
-    normals.entry.now tangents.entry.now tangents.exit.now
+abbrev pub HoldsVertex : Whole → Option Matrix → ℕ → ℕ → Attributes → Floats → Floats → Type 0
+HoldsVertex whole o v i out n t =
+    HeldVertex whole o v i out.entry.now.positions.now out.exit.now.positions.now
+    out.entry.now.normals.now out.entry.now.tangents.now out.exit.now.tangents.now
     n.entry.now n.exit.now t.entry.now t.exit.now
 
 -- n vertices from vertex k on
@@ -81,8 +77,8 @@ pub record HeldRows (palette : List Matrix) (joints : List (List ℕ)) (weights 
       (part lent_tangents ((k + i) * 4) 3)) held_tangents
 
 -- sixteen, in the slices that are borrowed
-abbrev pub HoldsBlock : SharedFloats → SharedWords → SharedFloats → Whole → ℕ → Floats → SharedFloats → Floats → Waiting → Type 0
-HoldsBlock palette joints weights whole k positions normals tangents held =
-    HeldRows (rows_in 16 palette.entry.now) (rows_in 4 joints.entry.now) (rows_in 4 weights.entry.now)
-    whole k 16 positions.entry.now positions.exit.now
-    normals.entry.now tangents.entry.now tangents.exit.now held.normals held.tangents
+abbrev pub HoldsBlock : Influences → Whole → ℕ → Attributes → Waiting → Type 0
+HoldsBlock by whole k out held =
+    HeldRows (rows_in 16 by.palette.now) (rows_in 4 by.joints.now) (rows_in 4 by.weights.now)
+    whole k 16 out.entry.now.positions.now out.exit.now.positions.now
+    out.entry.now.normals.now out.entry.now.tangents.now out.exit.now.tangents.now held.normals held.tangents

@@ -1,10 +1,11 @@
 -- Vertices that are moved by the matrices of their joints. Definitions only.
 use Rattle.std.specs.Prelude.{◌≡◌, List, ℕ, ◌+◌, ◌*◌, ◌/◌, Float, length}
-use Rattle.borrowed.specs.Slices.{SharedWords, SharedFloats, Floats}
+use Rattle.borrowed.specs.Attributes.{Attributes}
 use Rattle.model.specs.Lists.{rows_in}
 use Rattle.model.specs.Vector.{Vector}
 use Rattle.model.specs.Matrix.{Matrix, inverse_transpose}
 use Rattle.model.specs.Vertices.{joint_matrix, by_matrix, affine_point, turned_normal, turned_tangent}
+use Rattle.vertex_rows.specs.declared.influences.Influences.{Influences}
 use Rattle.vertex_rows.specs.Rows.{first_rows}
 use Rattle.transform.specs.Blocks.{rows_from}
 
@@ -26,12 +27,12 @@ pub record MovedFrom (palette : List Matrix) (joints : List (List ℕ)) (weights
       ≡ rows_from 4 (λ i. by_matrix turned_tangent (joint_matrix palette joints weights (k + i))) k lent_tangents n
 
 -- in the slices that are borrowed: sixteen floats a joint, four joints and four weights a vertex
-abbrev pub MovesFrom : SharedFloats → SharedWords → SharedFloats → ℕ → ℕ → Floats → Floats → Floats → Type 0
-MovesFrom palette joints weights k n positions normals tangents =
-    MovedFrom (rows_in 16 palette.entry.now) (rows_in 4 joints.entry.now) (rows_in 4 weights.entry.now) k n
-    positions.entry.now positions.exit.now
-    normals.entry.now normals.exit.now
-    tangents.entry.now tangents.exit.now
+abbrev pub MovesFrom : Influences → ℕ → ℕ → Attributes → Type 0
+MovesFrom by k n out =
+    MovedFrom (rows_in 16 by.palette.now) (rows_in 4 by.joints.now) (rows_in 4 by.weights.now) k n
+    out.entry.now.positions.now out.exit.now.positions.now
+    out.entry.now.normals.now out.exit.now.normals.now
+    out.entry.now.tangents.now out.exit.now.tangents.now
 
 -- the first n
 pub record FirstMoved (palette : List Matrix) (joints : List (List ℕ)) (weights : List Vector) (n : ℕ)
@@ -44,10 +45,10 @@ pub record FirstMoved (palette : List Matrix) (joints : List (List ℕ)) (weight
       left_tangents ≡ first_rows 4 (λ i. by_matrix turned_tangent (joint_matrix palette joints weights i)) lent_tangents n
 
 -- all that stand in whole blocks of sixteen
-abbrev pub MovesBlocks : SharedFloats → SharedWords → SharedFloats → Floats → Floats → Floats → Type 0
-MovesBlocks palette joints weights positions normals tangents =
-    FirstMoved (rows_in 16 palette.entry.now) (rows_in 4 joints.entry.now) (rows_in 4 weights.entry.now)
-    (length positions.entry.now / 3 / 16 * 16)
-    positions.entry.now positions.exit.now
-    normals.entry.now normals.exit.now
-    tangents.entry.now tangents.exit.now
+abbrev pub MovesBlocks : Influences → Attributes → Type 0
+MovesBlocks by out =
+    FirstMoved (rows_in 16 by.palette.now) (rows_in 4 by.joints.now) (rows_in 4 by.weights.now)
+    (length out.entry.now.positions.now / 3 / 16 * 16)
+    out.entry.now.positions.now out.exit.now.positions.now
+    out.entry.now.normals.now out.exit.now.normals.now
+    out.entry.now.tangents.now out.exit.now.tangents.now

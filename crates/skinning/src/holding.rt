@@ -1,20 +1,21 @@
 // Sixteen vertices by the matrices of their joints, with the directions held back: their lengths are taken together
 // once all are there.
 ghost use Rattle.std.specs.Prelude.{◌≡◌, true, ◌+◌, ◌*◌, ◌/◌, ◌≤◌, ◌<◌, length};
-ghost use Rattle.std.proofs.Math.Option.{some};
 ghost use Rattle.std.proofs.Math.Seq.{paste};
+ghost use Rattle.borrowed.specs.Attributes.{SameSlices};
 ghost use Rattle.model.specs.Lists.{pick, part, row};
 ghost use Rattle.model.specs.Matrix.{linear, turned, inverse_transpose};
 ghost use Rattle.scene.specs.Values.{vec3, linear_of, matrix_of};
 ghost use Rattle.vertex_rows.specs.Rows.{flipped, row_changed};
 ghost use Rattle.transform.specs.Blocks.{unit_over, rows_from};
 ghost use Rattle.skinning.specs.Moved.{MovesFrom};
-ghost use Rattle.skinning.specs.Holding.{zeros, direction_by, Room, HoldsOne, HoldsDirections};
+ghost use Rattle.skinning.specs.Holding.{zeros, direction_by, Room, HoldsOne};
 ghost use Rattle.skinning.specs.Holding.{HoldsVertex, HoldsBlock};
 
+use borrowed::Vertices;
 use scene::{Mat3, Mat4, Vec3};
 use transform::put_units;
-use vertex_rows::{flip_tangent, joint_matrix, load3, move_position, store3};
+use vertex_rows::{Influences, flip_tangent, joint_matrix, load3, move_position, store3};
 
 // Whether a block has all its normals, and all its tangents. Where it has not, it has none.
 #[derive(Clone, Copy)]
@@ -45,12 +46,12 @@ fn direction(l: Option<Mat3>, v: Vec3) -> Vec3
 }
 
 // Puts the direction of normal v at i.
-fn hold_normal(m: Mat4, whole: bool, normals: &[f32], v: usize, held: &mut [f32], i: usize)
-    requires { (i * 3 + 3 ≤ length held.old) × (whole ≡ true → v < length normals.now / 3) }
-    ensures { HoldsOne whole i (direction_by (inverse_transpose m.m) (row 3 normals.now v)) held }
+fn hold_normal(m: Mat4, whole: bool, of: &Vertices<'_>, v: usize, held: &mut [f32], i: usize)
+    requires { (i * 3 + 3 ≤ length held.old) × (whole ≡ true → v < length of.now.normals.now / 3) }
+    ensures { HoldsOne whole i (direction_by (inverse_transpose m.m) (row 3 of.entry.now.normals.now v)) held }
 {
     if whole {
-        let n = load3(normals, v * 3);
+        let n = load3(of.normals, v * 3);
         store3(
             held,
             i * 3,
@@ -60,12 +61,12 @@ fn hold_normal(m: Mat4, whole: bool, normals: &[f32], v: usize, held: &mut [f32]
 }
 
 // Puts the direction of tangent v at i.
-fn hold_tangent(m: Mat4, whole: bool, tangents: &[f32], v: usize, held: &mut [f32], i: usize)
-    requires { (i * 3 + 3 ≤ length held.old) × (whole ≡ true → v < length tangents.now / 4) }
-    ensures { HoldsOne whole i (turned (linear m.m) (part tangents.now (v * 4) 3)) held }
+fn hold_tangent(m: Mat4, whole: bool, of: &Vertices<'_>, v: usize, held: &mut [f32], i: usize)
+    requires { (i * 3 + 3 ≤ length held.old) × (whole ≡ true → v < length of.now.tangents.now / 4) }
+    ensures { HoldsOne whole i (turned (linear m.m) (part of.entry.now.tangents.now (v * 4) 3)) held }
 {
     if whole {
-        let t = load3(tangents, v * 4);
+        let t = load3(of.tangents, v * 4);
         store3(held, i * 3, scene::mul3(scene::linear_part(m), t));
     }
 }
@@ -77,26 +78,6 @@ fn hand(mirror: bool, tangents: &mut [f32], v: usize)
     if mirror {
         flip_tangent(tangents, v);
     }
-}
-
-// Puts the directions of normal and tangent v at i, and flips the tangent under a mirror.
-fn hold_directions(
-    m: Mat4,
-    whole: Whole,
-    normals: &[f32],
-    tangents: &mut [f32],
-    v: usize,
-    n: &mut [f32],
-    t: &mut [f32],
-    i: usize,
-)
-    requires { Room whole v i normals.now tangents.old n.old t.old }
-    ensures { HoldsDirections whole (some m.m) v i normals tangents n t }
-{
-    let mirror = scene::linear_det(m) < 0.0;
-    hold_normal(m, whole.normals, normals, v, n, i);
-    hold_tangent(m, whole.tangents, tangents, v, t, i);
-    hand(mirror, tangents, v);
 }
 
 // Puts zeros at i.
@@ -114,59 +95,48 @@ fn hold_zeros(n: &mut [f32], t: &mut [f32], i: usize)
     store3(t, i * 3, z);
 }
 
-// Vertex v by its joint matrix, with its directions put at i.
+// Vertex v by its joint matrix: its position moved, the directions of normal and tangent put at i, and the tangent
+// flipped under a mirror.
 fn hold_vertex(
     joint: Option<Mat4>,
     whole: Whole,
-    positions: &mut [f32],
-    normals: &[f32],
-    tangents: &mut [f32],
+    out: &mut Vertices<'_>,
     v: usize,
     n: &mut [f32],
     t: &mut [f32],
     i: usize,
 )
-    requires { Room whole v i normals.now tangents.old n.old t.old }
-    ensures { HoldsVertex whole (matrix_of joint) v i positions normals tangents n t }
+    requires { Room whole v i out.old.normals.now out.old.tangents.now n.old t.old }
+    ensures held { HoldsVertex whole (matrix_of joint) v i out n t }
+    ensures normals { out.new.normals.now ≡ out.old.normals.now }
+    ensures same_slices { SameSlices out.old out.new }
 {
     if let Some(m) = joint {
-        move_position(m, positions, v);
-        hold_directions(m, whole, normals, tangents, v, n, t, i);
+        move_position(m, out.positions, v);
+        // Asked before the directions are put: after them it costs more.
+        let mirror = scene::linear_det(m) < 0.0;
+        hold_normal(m, whole.normals, out, v, n, i);
+        hold_tangent(m, whole.tangents, out, v, t, i);
+        hand(mirror, out.tangents, v);
         return;
     }
     hold_zeros(n, t, i);
 }
 
 // Vertices k to k + 15, with their directions held back.
-fn hold_block(
-    palette: &[f32],
-    joints: &[u32],
-    weights: &[f32],
-    whole: Whole,
-    positions: &mut [f32],
-    normals: &[f32],
-    tangents: &mut [f32],
-    k: usize,
-) -> Waiting
-    requires { (k + 16 ≤ length positions.old / 3) × (whole.normals ≡ true → k + 16 ≤ length normals.now / 3)
-        × (whole.tangents ≡ true → k + 16 ≤ length tangents.old / 4) }
-    ensures { HoldsBlock palette joints weights whole k positions normals tangents result }
+fn hold_block(by: Influences, whole: Whole, out: &mut Vertices<'_>, k: usize) -> Waiting
+    requires { (k + 16 ≤ length out.old.positions.now / 3)
+        × (whole.normals ≡ true → k + 16 ≤ length out.old.normals.now / 3)
+        × (whole.tangents ≡ true → k + 16 ≤ length out.old.tangents.now / 4) }
+    ensures held { HoldsBlock by.entry whole k out result }
+    ensures normals { out.new.normals.now ≡ out.old.normals.now }
+    ensures same_slices { SameSlices out.old out.new }
 {
     let mut n = [0.0f32; 48];
     let mut t = [0.0f32; 48];
     for i in 0..16 {
-        let joint = joint_matrix(palette, joints, weights, k + i);
-        hold_vertex(
-            joint,
-            whole,
-            positions,
-            normals,
-            tangents,
-            k + i,
-            &mut n,
-            &mut t,
-            i,
-        );
+        let joint = joint_matrix(by, k + i);
+        hold_vertex(joint, whole, out, k + i, &mut n, &mut t, i);
     }
     Waiting {
         normals: n,
@@ -186,29 +156,20 @@ fn put_held(whole: bool, d: &mut [f32; 48], w: usize, s: &mut [f32], k: usize)
 }
 
 // Vertices k to k + 15, where no attribute ends among them.
-pub(crate) fn skin_block(
-    palette: &[f32],
-    joints: &[u32],
-    weights: &[f32],
-    positions: &mut [f32],
-    normals: &mut [f32],
-    tangents: &mut [f32],
-    k: usize,
-)
-    requires { (k + 16 ≤ length positions.old / 3)
-        × (length normals.old / 3 < k + 16 → length normals.old / 3 ≤ k)
-        × (length tangents.old / 4 < k + 16 → length tangents.old / 4 ≤ k) }
-    ensures { MovesFrom palette joints weights k 16 positions normals tangents }
+pub(crate) fn skin_block(by: Influences, out: &mut Vertices<'_>, k: usize)
+    requires { (k + 16 ≤ length out.old.positions.now / 3)
+        × (length out.old.normals.now / 3 < k + 16 → length out.old.normals.now / 3 ≤ k)
+        × (length out.old.tangents.now / 4 < k + 16 → length out.old.tangents.now / 4 ≤ k) }
+    ensures moved { MovesFrom by.entry k 16 out }
+    ensures same_slices { SameSlices out.old out.new }
 {
     let whole = Whole {
-        normals: k + 16 <= normals.len() / 3,
-        tangents: k + 16 <= tangents.len() / 4,
+        normals: k + 16 <= out.normals.len() / 3,
+        tangents: k + 16 <= out.tangents.len() / 4,
     };
-    let held = hold_block(
-        palette, joints, weights, whole, positions, normals, tangents, k,
-    );
+    let held = hold_block(by, whole, out, k);
     let mut n = held.normals;
     let mut t = held.tangents;
-    put_held(whole.normals, &mut n, 3, normals, k);
-    put_held(whole.tangents, &mut t, 4, tangents, k);
+    put_held(whole.normals, &mut n, 3, out.normals, k);
+    put_held(whole.tangents, &mut t, 4, out.tangents, k);
 }

@@ -1,15 +1,15 @@
 -- Bytes put into an output: one list after the other, a run at once, and a list part by part. Assumes nothing.
 use mathlib.Core.Path.{◌≡◌, refl, sym, ap, ◌∙◌}
 use mathlib.Core.Bool.{Bool, true, false}
-use mathlib.Core.List.{List, [], ◌∷◌, ◌++◌}
+use mathlib.Core.List.{List, [], ◌∷◌, ◌++◌, append_assoc}
 use Prim.Native.Nat.{ℕ, suc, ◌+◌, ◌*◌, ◌≤◌, ◌<◌, min}
 use native.Mathlib.Numerals.{add-one}
 use native.Mathlib.Omega.{arith}
-use borrow.Author.Tests.{ne_eqb, ltb-true, ltb-false}
+use borrow.Author.Tests.{eq-eqb, ne_eqb, ltb-true, ltb-false}
 use lib.Dec.{ltb, eqb}
 use lib.ListN.{length, get_or, set, take, drop, replicate, length-set, length-append, length-replicate}
 use lib.ListN.{drop_of_length-le}
-use lib.Seq.{sets, set_out, drop-cons, length-sets, sets-eq, take_at}
+use lib.Seq.{sets, set_out, drop-cons, drop-drop, length-sets, sets-eq, take_at}
 use Rattle.model.specs.Lists.{pick}
 use Rattle.grammar.specs.Digits.{Sort, numbers, floats, places, digits_of, items_text}
 use Rattle.spelling.specs.Pushed.{Out, out_at, farthest, push, pushes, behind}
@@ -67,6 +67,23 @@ put-sets lent at [] n l e h f g = absurd (omega arith)
 put-sets lent at (b ∷ bs) n l e h f g =
     let m : min (at + n) farthest ≡ min (at + suc (length bs)) farthest = omega arith in
     (λ j. out_at (f j) ((g ∙ m) j)) ∙ sym (push-sets b bs lent at l)
+
+-- bytes that there is room for
+pub put-run : (lent : List ℕ) (at n : ℕ) (bs : List ℕ) {left : List ℕ} → length lent < farthest
+    → at + length bs ≤ length lent → n ≡ length bs → left ≡ take at lent ++ (bs ++ drop n (drop at lent))
+    → out_at left (at + length bs) ≡ pushes bs (out_at lent at)
+unfolding pushes
+put-run lent at n bs {left} h r e f =
+    go bs r (f ∙ (λ j. take at lent ++ (bs ++ rest j)) ∙ sym (append_assoc (take at lent) bs _)
+    ∙ sym (sets-eq bs lent at r))
+  where
+    rest : drop n (drop at lent) ≡ drop (at + length bs) lent
+    rest = drop-drop n at lent ∙ ap (λ (k : ℕ). drop (at + k) lent) e
+
+    go : (xs : List ℕ) → at + length xs ≤ length lent → left ≡ sets lent at xs
+        → out_at left (at + length xs) ≡ pushes xs (out_at lent at)
+    go [] r e = let here : at + 0 ≡ at = omega arith in λ j. out_at (e j) (here j)
+    go (x ∷ xs) r e = put-sets lent at (x ∷ xs) (length (x ∷ xs)) (omega arith) refl (omega arith) e (omega arith)
 
 -- bytes put into zeros that have room for them stand at their start
 pub record Filled (bs left : List ℕ) (end : ℕ) : Type 0 where
@@ -149,7 +166,7 @@ floats-long (x ∷ xs) =
       length-append (digits_of floats x) (items_text floats xs),
     )
 
-pub floats-behind : (xs : List ℕ) (at : ℕ)
+floats-behind : (xs : List ℕ) (at : ℕ)
     → pick (eqb (length xs) 0) at (min (at + length xs * 9) farthest) ≡ behind at (items_text floats xs)
 unfolding items_text behind
 floats-behind [] at = refl
@@ -159,10 +176,29 @@ floats-behind (x ∷ xs) at =
     ∙ omega (arith, floats-long (x ∷ xs))
     ∙ sym (behind-run 32 (digits_of floats x ++ items_text floats xs) at)
 
+pub no-floats : (xs : List ℕ) (at : ℕ) → length xs ≡ 0 → at ≡ behind at (items_text floats xs)
+no-floats xs at e =
+    (λ j. pick (sym (eq-eqb (length xs) 0 e) j) at (min (at + length xs * 9) farthest)) ∙ floats-behind xs at
+
+pub some-floats : (xs : List ℕ) (at : ℕ) {next : ℕ} → (length xs ≡ 0 → ⊥) → next ≡ min (at + length xs * 9) farthest
+    → next ≡ behind at (items_text floats xs)
+some-floats xs at h e =
+    e ∙ (λ j. pick (sym (ne_eqb (length xs) 0 h) j) at (min (at + length xs * 9) farthest)) ∙ floats-behind xs at
+
 -- ---- a list part by part
 pub record Parts {A : Type 0} (text : List A → List ℕ) (part : A → List ℕ) : Type 0 where
   pub none : text [] ≡ []
   pub more : (x : A) (xs : List A) → text (x ∷ xs) ≡ part x ++ text xs
+
+-- items behind a space, each by its word
+pub items-parts : {A : Type 0} (s : Sort) (words : List A → List ℕ) (word : A → ℕ) → words [] ≡ []
+    → ((x : A) (xs : List A) → words (x ∷ xs) ≡ word x ∷ words xs)
+    → Parts (λ xs. items_text s (words xs)) (λ x. 32 ∷ digits_of s (word x))
+unfolding items_text
+items-parts s words word none more = record {
+  none = ap (items_text s) none;
+  more = λ x xs. ap (items_text s) (more x xs);
+}
 
 -- what is still to put makes up what was to put
 abbrev pub Going : {A : Type 0} → (List A → List ℕ) → List A → Out → Out → ℕ → Type 0

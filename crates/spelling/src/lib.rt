@@ -2,11 +2,11 @@
 // also past the end, so that the same function tells how much room is needed.
 #![tactic(auto)]
 
-ghost use Rattle.std.specs.Prelude.{◌≡◌, [], ◌∷◌, map, ◌+◌, ◌*◌, ◌≤◌, ◌<◌, min, ltb, eqb, length, set};
+ghost use Rattle.std.specs.Prelude.{◌≡◌, refl, true, List, [], ◌∷◌, map, ℕ, ◌+◌, ◌≤◌, ◌<◌, min, ltb, length, set};
 ghost use Rattle.std.specs.Float.{binary32};
 ghost use Rattle.std.specs.Float.Ieee.{to_bits};
 ghost use Rattle.std.proofs.lemmas.List.Edits.{sets};
-ghost use Rattle.grammar.specs.Digits.{numbers, floats, hex_digit, last_digits, places, digits_of, sort_for};
+ghost use Rattle.grammar.specs.Digits.{Sort, numbers, floats, hex_digit, last_digits, places, digits_of, sort_for};
 ghost use Rattle.grammar.specs.Digits.{items_text};
 ghost use Rattle.model.specs.Lists.{pick};
 ghost use Rattle.spelling.specs.Pushed.{farthest, Puts, behind};
@@ -39,10 +39,15 @@ pub fn put(out: &mut [u8], at: usize, b: u8) -> usize
     next
 }
 
-// Puts bytes as they are.
+// Puts bytes as they are: at once where there is room for all of them.
 pub fn put_bytes(out: &mut [u8], at: usize, bytes: &[u8]) -> usize
     ensures { Puts bytes.now out at result }
 {
+    let n = bytes.len();
+    if at < out.len() && n <= out.len() - at {
+        out[at..at + n].copy_from_slice(bytes);
+        return at + n;
+    }
     let mut k = at;
     for b in bytes {
         k = put(out, k, *b);
@@ -61,7 +66,7 @@ fn letter(d: u32) -> u8
     }
 }
 
-// How many decimal digits n has.
+// How many decimal digits n has, by branches: one function for both was tried, and joints miss the bar of speed by it.
 fn places(n: u32) -> usize
     ensures { (result ≡ places 9 n) × (result ≤ 10) }
 {
@@ -110,7 +115,7 @@ fn above(limit: u32, n: u32) -> usize
     (limit < n) as usize
 }
 
-// How many decimal digits n has, without a branch.
+// The same without a branch, for lists that are measured.
 fn places_at_once(n: u32) -> usize
     ensures { (result ≡ places 9 n) × (result ≤ 10) }
 {
@@ -122,26 +127,19 @@ fn places_at_once(n: u32) -> usize
     1 + low + high
 }
 
-// The last `count` digits of n, from the last one back.
-fn digits(out: &mut [u8], at: usize, base: u32, count: usize, n: u32)
-    requires { (at < 0x8000_0000_0000_0001) × (count ≤ 10) × (0 < base) × (base ≤ 16) }
+// The last `count` digits of n, from the last one back. Inside, there is room for all of them.
+fn digits<const INSIDE: bool>(out: &mut [u8], at: usize, base: u32, count: usize, n: u32)
+    requires { (at < 0x8000_0000_0000_0001) × (INSIDE ≡ true → at + count ≤ length out.old)
+        × (count ≤ 10) × (0 < base) × (base ≤ 16) }
     ensures { out.new ≡ sets out.old at (last_digits base count n) }
 {
     let mut m = n;
     for k in (0..count).rev() {
-        store_byte(out, at + k, letter(m % base));
-        m /= base;
-    }
-}
-
-// The same where there is room for all of them.
-fn digits_inside(out: &mut [u8], at: usize, base: u32, count: usize, n: u32)
-    requires { (at + count ≤ length out.old) × (count ≤ 10) × (0 < base) × (base ≤ 16) }
-    ensures { out.new ≡ sets out.old at (last_digits base count n) }
-{
-    let mut m = n;
-    for k in (0..count).rev() {
-        out[at + k] = letter(m % base);
+        if INSIDE {
+            out[at + k] = letter(m % base);
+        } else {
+            store_byte(out, at + k, letter(m % base));
+        }
         m /= base;
     }
 }
@@ -156,9 +154,9 @@ fn spaced_digits(out: &mut [u8], at: usize, base: u32, count: usize, n: u32)
     }
     out[at] = 32;
     if count < out.len() - at {
-        digits_inside(out, at + 1, base, count, n);
+        digits::<true>(out, at + 1, base, count, n);
     } else {
-        digits(out, at + 1, base, count, n);
+        digits::<false>(out, at + 1, base, count, n);
     }
 }
 
@@ -182,56 +180,99 @@ pub fn put_item(out: &mut [u8], at: usize, float: bool, n: u32) -> usize
     put_digits(out, at, 10, places(n), n)
 }
 
-// The place behind a list of numbers.
-fn behind_numbers(at: usize, items: &[u32]) -> usize
-    ensures { result ≡ behind at (items_text numbers items.now) }
-{
-    let mut k = at;
-    for n in items {
-        k = advanced(k, places_at_once(*n) + 1);
-    }
-    k
+// What stands in a list: a number, or a float by its bits.
+pub trait Item: Copy {
+    ghost sort: { Sort };
+
+    ghost word_of: { Self → ℕ };
+
+    // What is written of a list.
+    ghost words: { List Self → List ℕ };
+
+    // Whether it is a float.
+    fn is_float() -> bool
+        ensures { sort_for result ≡ sort };
+
+    fn word(self) -> u32
+        ensures { result ≡ word_of self };
+
+    // The place behind a list.
+    fn behind(at: usize, items: &[Self]) -> usize
+        ensures { result ≡ behind at (items_text sort (words items.now)) };
+
+    ghost none: { words [] ≡ [] };
+
+    ghost more: { (x : Self) (l : List Self) → words (x ∷ l) ≡ word_of x ∷ words l };
 }
 
-// Puts a list of numbers, each behind a space.
-pub fn put_numbers(out: &mut [u8], at: usize, items: &[u32]) -> usize
-    ensures { Puts (items_text numbers items.now) out at result }
-{
-    if out.len() <= at {
-        return behind_numbers(at, items);
-    }
-    let mut k = at;
-    for n in items {
-        k = put_item(out, k, false, *n);
-    }
-    k
-}
+impl Item for u32 {
+    ghost sort = { numbers };
 
-// The place behind so many floats.
-fn behind_floats(at: usize, count: usize) -> usize
-    ensures { result ≡ pick (eqb count 0) at (min (at + count * 9) farthest) }
-{
-    if count == 0 {
-        return at;
+    ghost word_of = { λ n. n };
+
+    ghost words = { λ l. l };
+
+    ghost none = { refl };
+
+    ghost more = { λ x l. refl };
+
+    fn is_float() -> bool {
+        false
     }
-    if at < 0x8000_0000_0000_0000 {
-        if count <= (0x8000_0000_0000_0000 - at) / 9 {
-            return at + count * 9;
+
+    fn word(self) -> u32 {
+        self
+    }
+
+    fn behind(at: usize, items: &[u32]) -> usize {
+        let mut k = at;
+        for n in items {
+            k = advanced(k, places_at_once(*n) + 1);
         }
+        k
     }
-    0x8000_0000_0000_0000
 }
 
-// Puts a list of floats, each behind a space.
-pub fn put_floats(out: &mut [u8], at: usize, items: &[f32]) -> usize
-    ensures { Puts (items_text floats (map (to_bits binary32) items.now)) out at result }
+impl Item for f32 {
+    ghost sort = { floats };
+
+    ghost word_of = { to_bits binary32 };
+
+    ghost words = { map (to_bits binary32) };
+
+    ghost none = { refl };
+
+    ghost more = { λ x l. refl };
+
+    fn is_float() -> bool {
+        true
+    }
+
+    fn word(self) -> u32 {
+        float::to_bits(self)
+    }
+
+    fn behind(at: usize, items: &[f32]) -> usize {
+        let count = items.len();
+        if count == 0 {
+            return at;
+        }
+        at.saturating_add(count.saturating_mul(9))
+            .min(0x8000_0000_0000_0000)
+    }
+}
+
+// Puts a list, each item behind a space.
+pub fn put_items<I: Item>(out: &mut [u8], at: usize, items: &[I]) -> usize
+    ensures { Puts (items_text I.sort (I.words items.now)) out at result }
 {
     if out.len() <= at {
-        return behind_floats(at, items.len());
+        return I::behind(at, items);
     }
+    let float = I::is_float();
     let mut k = at;
     for x in items {
-        k = put_item(out, k, true, float::to_bits(*x));
+        k = put_item(out, k, float, x.word());
     }
     k
 }

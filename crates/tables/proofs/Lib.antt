@@ -1,5 +1,4 @@
 pub mod Reading
-pub mod WholeRecords
 pub mod Cutting
 pub mod Naming
 pub mod Decoding

@@ -1,17 +1,17 @@
 -- The scene that the lent tables say: offsets are resolved into lists, and what is absent is told from what is empty
 -- (docs/TABLES.md). It is given for any tables; where one of them is left, the call draws 1, and what is read there
 -- does not matter. Definitions only.
-use Rattle.std.specs.Prelude.{List, ℕ, ◌+◌, ◌*◌, leb, Float, length, get_or, take, drop, replicate}
+use Rattle.std.specs.Prelude.{List, ℕ, ◌+◌, ◌*◌, leb, Float, length, get_or, take, replicate}
 use Rattle.std.proofs.Math.Option.{Option, none, some}
 use Rattle.float.specs.F32.{zero32}
 use Rattle.model.specs.Lists.{pick, tabulate, part, rows_in}
-use Rattle.model.specs.Vector.{Vector}
 use Rattle.model.specs.Transform.{Trs, Transform, parts, matrix}
 use Rattle.model.specs.Scene as scene
 use Rattle.scene.specs.Slots.{matrix_in}
 use Rattle.tracks.specs.declared.Part.{Part}
 use Rattle.tracks.specs.Tracks.{track_in}
 use Rattle.tables.specs.declared.Header.{Header}
+use Rattle.tables.specs.declared.Lent as code
 use Rattle.tables.specs.declared.Slot.{Slot}
 use Rattle.tables.specs.declared.NodeRow.{NodeRow}
 use Rattle.tables.specs.declared.ChannelRow.{ChannelRow}
@@ -32,6 +32,16 @@ pub record Lent : Type 0 where
   pub node_weights : List Float
   pub mesh_weights : List Float
   pub header : Header
+
+-- what the slices that a call is lent hold
+abbrev pub lent_of : code.Lent → Lent
+lent_of l = record {
+  words = l.words.now;
+  floats = l.floats.now;
+  node_weights = l.node_weights.now;
+  mesh_weights = l.mesh_weights.now;
+  header = l.header;
+}
 
 -- ---- parts of a slice
 

@@ -1,3 +1,4 @@
+pub mod Alone
 pub mod Records
 pub mod Tags
 pub mod Decoded

@@ -5,10 +5,7 @@ use Rattle.std.specs.Prelude.{Bool, true, false, ℕ, zero, suc}
 use Rattle.std.proofs.Math.Option.{Option, none, some}
 use Rattle.model.specs.Lists.{pick}
 use Rattle.model.specs.Scene as scene
-use Rattle.tracks.specs.declared.Interpolation.{Interpolation}
-use Rattle.tracks.specs.declared.Interpolation.TheVariants as interpolation
-use Rattle.tracks.specs.declared.Kind.{Kind}
-use Rattle.tracks.specs.declared.Kind.TheVariants as kind
+use Rattle.tracks.specs.Codes.{kind_for, interpolation_for}
 use Rattle.tracks.specs.declared.Track.{Track}
 use Rattle.tables.specs.declared.Reference.{Reference}
 use Rattle.tables.specs.declared.ChannelRow.{ChannelRow}
@@ -18,16 +15,6 @@ use Rattle.tables.specs.declared.Property.TheVariants as property
 abbrev pub is_marked : ℕ → Bool
 is_marked zero = false
 is_marked (suc n) = true
-
-abbrev pub kind_for : ℕ → Kind
-kind_for zero = kind.Vec3
-kind_for (suc zero) = kind.Quat
-kind_for (suc (suc n)) = kind.Scalar
-
-abbrev pub interpolation_for : ℕ → Interpolation
-interpolation_for zero = interpolation.Step
-interpolation_for (suc zero) = interpolation.Linear
-interpolation_for (suc (suc n)) = interpolation.CubicSpline
 
 abbrev pub property_for : ℕ → scene.Property
 property_for zero = scene.translation

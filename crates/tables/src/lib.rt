@@ -5,6 +5,7 @@
 use tracks::Part;
 
 mod parts;
+mod places;
 mod readers;
 mod rows;
 
@@ -49,14 +50,24 @@ pub struct Header {
     pub skins: Skins,
 }
 
-// An id that may be absent: then the mark is 0.
+// A scene as it is lent: the words of its records, its floats beside them, and where each table lies.
+#[derive(Clone, Copy)]
+pub struct Lent<'a> {
+    pub words: &'a [u32],
+    pub floats: &'a [f32],
+    pub node_weights: &'a [f32],
+    pub mesh_weights: &'a [f32],
+    pub header: Header,
+}
+
+// An id that may be absent: then the mark is 0. The mark is a number, since one above 1 draws 2.
 #[derive(Clone, Copy)]
 pub struct Reference {
     pub mark: u32,
     pub id: u32,
 }
 
-// A part that may be absent: then the mark is 0. A part that is present with no entries is not absent.
+// A part that may be absent: then the mark is 0, as above. A part that is present with no entries is not absent.
 #[derive(Clone, Copy)]
 pub struct Slot {
     pub mark: u32,

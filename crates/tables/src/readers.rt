@@ -1,7 +1,7 @@
 ghost use Rattle.std.specs.Prelude.{◌≡◌, length, get_or};
 ghost use Rattle.float.specs.F32.{zero32};
 ghost use Rattle.scene.specs.Values.{trs, transform_of};
-ghost use Rattle.tables.specs.Tags.{is_marked, kind_for, interpolation_for, property_for, property_of, option_of};
+ghost use Rattle.tables.specs.Tags.{is_marked, property_for, property_of, option_of};
 ghost use Rattle.tables.specs.Tags.{id_of};
 ghost use Rattle.tables.specs.Tags.{track_for};
 ghost use Rattle.tables.specs.Decoded.{parts_from, ten_in, base_of};
@@ -27,60 +27,35 @@ pub fn id_of(r: Reference) -> Option<u32>
     Some(r.id)
 }
 
-fn kind_for(kind: u32) -> Kind
-    ensures { result ≡ kind_for kind }
-{
-    if kind == 0 {
-        return Kind::Vec3;
-    }
-    if kind == 1 {
-        return Kind::Quat;
-    }
-    Kind::Scalar
-}
+impl From<u32> for Property {
+    ghost from_gives = { λ n p. property_of p ≡ property_for n };
 
-fn interpolation_for(interpolation: u32) -> Interpolation
-    ensures { result ≡ interpolation_for interpolation }
-{
-    if interpolation == 0 {
-        return Interpolation::Step;
+    fn from(n: u32) -> Property {
+        match n {
+            0 => Property::Translation,
+            1 => Property::Rotation,
+            2 => Property::Scale,
+            _ => Property::MorphWeights,
+        }
     }
-    if interpolation == 1 {
-        return Interpolation::Linear;
-    }
-    Interpolation::CubicSpline
 }
 
 // What a channel drives.
 pub fn property_of(row: ChannelRow) -> Property
     ensures { property_of result ≡ property_for row.property }
 {
-    let property = row.property;
-    if property == 0 {
-        return Property::Translation;
-    }
-    if property == 1 {
-        return Property::Rotation;
-    }
-    if property == 2 {
-        return Property::Scale;
-    }
-    Property::MorphWeights
+    Property::from(row.property)
 }
 
 // The track of a channel.
 pub fn track_of(row: ChannelRow) -> Track
     ensures { result ≡ track_for row }
 {
-    let kind = kind_for(row.kind);
-    let interpolation = interpolation_for(row.interpolation);
-    let keys = row.keys;
-    let values = row.values;
     Track {
-        kind,
-        interpolation,
-        keys,
-        values,
+        kind: Kind::from(row.kind),
+        interpolation: Interpolation::from(row.interpolation),
+        keys: row.keys,
+        values: row.values,
     }
 }
 

@@ -16,7 +16,7 @@ use Rattle.model.specs.Lists.{pick}
 use Rattle.model.specs.Matrix.{Matrix}
 use Rattle.model.specs.Scene.{Scene, Mesh}
 use Rattle.model.specs.Skin.{blend_weights}
-use Rattle.model.specs.Refusals.{number, first_of, lowest, early_number as early_tests}
+use Rattle.model.specs.Refusals.{first_of, lowest, early_number as early_tests}
 use Rattle.model.specs.Bake.{Request, Output, refused, fits, delivered, judged, baked_from, baked_after, bake}
 use Rattle.model.specs.Bake.{output_of, baked_primitive}
 use Rattle.model.proofs.Tests.{both}
@@ -30,7 +30,8 @@ use Rattle.printing.specs.Lines.{vertices_text, number_text}
 use Rattle.printing.proofs.LineLaws.{number-few, vertices-few}
 use Rattle.scene_forms.specs.Said.{node_of, time_of}
 use Rattle.scene_text.specs.declared.Needed.{Needed}
-use Rattle.scene_text.specs.Reading.{read, room_tests, Lengths, needed_as, needed_by, room_of}
+use Rattle.scene_text.specs.declared.Lengths.{Lengths}
+use Rattle.scene_text.specs.Reading.{read, room_tests, needed_as, needed_by, room_of}
 use Rattle.text_baking.specs.Printed.{text_limit, float_room, lent_by, room, baked_by, early_number, text_number}
 use Rattle.text_baking.specs.Printed.{outcome_text, printed, Prints, baked_text, Readable, needed_for}
 

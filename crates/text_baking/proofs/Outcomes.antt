@@ -1,7 +1,5 @@
 -- What is printed of a bake, from the number and the positions that it left. Assumes nothing.
-use mathlib.Core.Path.{◌≡◌, refl, sym, ap, ◌∙◌}
-use mathlib.Core.Bool.{Bool}
-use mathlib.Core.List.{List, ◌++◌}
+use mathlib.Core.Path.{◌≡◌, sym, ap, ◌∙◌}
 use Prim.Native.Nat.{ℕ, ◌≤◌}
 use native.Mathlib.Omega.{arith}
 use borrow.Author.Tests.{eq-eqb, ne_eqb}
@@ -18,7 +16,7 @@ use Rattle.bake.specs.declared.Answer.{Answer}
 use Rattle.bake.specs.Baked as bake
 use Rattle.spelling.specs.Pushed.{Out, pushes}
 use Rattle.printing.specs.Lines.{vertices_text, number_text}
-use Rattle.text_baking.specs.Printed.{room, outcome_text, bake_text}
+use Rattle.text_baking.specs.Printed.{room, bake_text}
 
 module _ {l : Lent} {i : ℕ} {time : Float} {c : bake.Change} {a : Answer} (b : bake.Baked l i time c a)
     (lent : c.from ≡ room) where

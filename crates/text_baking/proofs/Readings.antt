@@ -2,37 +2,42 @@
 -- Assumes nothing.
 use mathlib.Core.Path.{◌≡◌, refl, sym, ap, subst, ◌∙◌}
 use mathlib.Core.Bool.{Bool, true, false, not, ◌||◌}
-use mathlib.Core.List.{List, [], ◌∷◌, ◌++◌}
+use mathlib.Core.List.{List, [], ◌∷◌}
 use mathlib.Core.Option.{Option, none, some}
-use Prim.Native.Nat.{ℕ, ◌+◌, ◌*◌, ◌≤◌, min}
+use Prim.Native.Nat.{ℕ, ◌≤◌}
 use native.Mathlib.Omega.{arith}
 use borrow.Author.Tests.{eq-eqb, le-ltb}
-use lib.Dec.{T, eqb, ltb}
+use lib.Dec.{T}
 use lib.Ieee.{Float}
-use lib.ListN.{length, take, drop, replicate, length-replicate}
+use lib.ListN.{length, take, replicate, length-replicate}
 use lib.Seq.{sets, length-sets}
+use Rattle.std.proofs.Common.{Ok, Err}
 use Rattle.borrowed.specs.Slices.{Change}
 use Rattle.float.specs.F32.{zero32}
 use Rattle.model.specs.Lists.{pick, is_some, or_else}
 use Rattle.model.specs.Refusals.{number, bad_form, out_of_table, short_output, first_of}
+use Rattle.refusals.specs.declared.Refusal.{Refusal}
+use Rattle.refusals.proofs.Told.{not-none}
 use Rattle.checks.specs.Drawn.{lent_as}
-use Rattle.grammar.specs.Forms.{Document, document_text}
+use Rattle.grammar.specs.Forms.{Document}
 use Rattle.grammar.specs.Shape.{Reads}
 use Rattle.grammar.specs.Parsed.{reading_of}
 use Rattle.grammar.proofs.Found.{found-reads}
-use Rattle.spelling.specs.Pushed.{Out, farthest, pushes}
+use Rattle.spelling.specs.Pushed.{Out, pushes}
 use Rattle.scene_schema.specs.Schema.{kinds}
 use Rattle.scene_forms.specs.Read.{Slices}
-use Rattle.scene_forms.specs.Said.{tables_of, header_of, node_of, time_of, leaves}
+use Rattle.scene_forms.specs.Said.{tables_of, leaves}
 use Rattle.scene_forms.proofs.StoreLaws.{front}
 use Rattle.scene_text.specs.declared.Reading.{Reading}
 use Rattle.scene_text.specs.declared.Needed.{Needed}
-use Rattle.scene_text.specs.Scanned.{room_in}
-use Rattle.scene_text.specs.Reading.{read, Lengths, lengths_of, needed_by, is_short, read_number, SceneRead, laid_in}
-use Rattle.scene_text.specs.Reading.{accepted_as, refused_by, needed_as, room_of}
+use Rattle.scene_text.specs.declared.Contents.{Contents}
+use Rattle.scene_text.specs.declared.Lengths.{Lengths}
+use Rattle.scene_text.specs.Scanned.{room_in, is_short}
+use Rattle.scene_text.specs.Reading.{read, lengths_of, needed_by, read_number, SceneRead, laid_in}
+use Rattle.scene_text.specs.Reading.{accepted_as, refused_by, answer_of, needed_as, told_by, room_of}
 use Rattle.text_sizes.specs.Few.{FewerThan}
 use Rattle.text_sizes.proofs.Tables.{tables-few}
-use Rattle.text_baking.specs.Printed.{text_limit, float_room, lent_by, Readable, bake_text, baked_text}
+use Rattle.text_baking.specs.Printed.{text_limit, float_room, Readable, bake_text, baked_text}
 
 -- ---- a reading
 
@@ -106,6 +111,9 @@ pub record Stored {A : Type 0} (table : List A) (slice : List A) (n : ℕ) : Typ
   pub inside : n ≤ length slice
   pub taken : take n slice ≡ table
 
+pub reach : {A : Type 0} {xs ys : List A} {n : ℕ} → n ≤ length ys → xs ≡ ys → n ≤ length xs
+reach h e = omega (arith, h, ap length e)
+
 stands : {A : Type 0} (lent slice table : List A) (n room : ℕ) → slice ≡ sets lent 0 table → n ≡ length table
     → length lent ≡ room → length table ≤ room → Stored table slice n
 stands lent slice table n room e l r h = record {
@@ -113,69 +121,77 @@ stands lent slice table n room e l r h = record {
   taken = ap (take n) e ∙ front lent table n l (omega arith);
 }
 
-module _ {text : List ℕ} (h : Readable text) {n : Needed} (told : n ≡ room_of text) {c : Change Slices} {r : Reading}
-    (took : SceneRead text c r) (lent : lengths_of c.from ≡ room_lengths) where
-  abbrev d : Document
-  d = read text
+module _ {text : List ℕ} (h : Readable text) {c : Change Slices} (lent : lengths_of c.from ≡ room_lengths) where
+  module _ {r : Reading} (took : SceneRead text c r) where
+    zero_is : read_number text (lengths_of c.from) ≡ 0
+    zero_is =
+        ap (read_number text) lent
+        ∙ no_number (is_some (reading_of kinds text)) (leaves (read text))
+        (is_short room_lengths (needed_by (read text))) (clear text h) (none-short text h)
 
-  zero_is : read_number text (lengths_of c.from) ≡ 0
-  zero_is =
-      ap (read_number text) lent
-      ∙ no_number (is_some (reading_of kinds text)) (leaves d) (is_short room_lengths (needed_by d)) (clear text h)
-      (none-short text h)
+    answer : r ≡ accepted_as (read text)
+    answer = took.answer ∙ (λ j. pick (eq-eqb _ 0 zero_is j) (accepted_as (read text)) (refused_by (zero_is j)))
 
-  answer : r ≡ accepted_as d
-  answer = took.answer ∙ (λ j. pick (eq-eqb _ 0 zero_is j) (accepted_as d) (refused_by (zero_is j)))
+    filled : c.to ≡ laid_in (read text) c.from
+    filled = took.slices ∙ (λ j. pick (eq-eqb _ 0 zero_is j) (laid_in (read text) c.from) c.from)
 
-  filled : c.to ≡ laid_in d c.from
-  filled = took.slices ∙ (λ j. pick (eq-eqb _ 0 zero_is j) (laid_in d c.from) c.from)
+  -- nothing is refused
+  pub none-refused : (e : Refusal) → SceneRead text c (answer_of (Err e)) → ⊥
+  none-refused e took = not-none e (ap (λ (r : Reading). r.number) (answer took))
 
-  needs : n ≡ needed_as 0 (needed_by d)
+module _ {text : List ℕ} (h : Readable text) {n : Lengths} (told : told_by (Ok n) ≡ room_of text) {c : Change Slices}
+    {r : Contents} (took : SceneRead text c (answer_of (Ok r))) (lent : lengths_of c.from ≡ room_lengths) where
+  needs : told_by (Ok n) ≡ needed_as 0 (needed_by (read text))
   needs =
       told
-      ∙ (λ j. pick (eq-eqb _ 0 h.reads j) (needed_as 0 (needed_by d))
+      ∙ (λ j. pick (eq-eqb _ 0 h.reads j) (needed_as 0 (needed_by (read text)))
       (needed_as (h.reads j) (record { words = 0; floats = 0; node_weights = 0; mesh_weights = 0 })))
 
-  pub words-in : Stored (tables_of d).words c.to.words n.words
+  pub words-in : Stored (tables_of (read text)).words c.to.words n.words
   words-in =
       let f = (few text h).words in
-      stands c.from.words c.to.words (tables_of d).words n.words text_limit
-      (ap (λ (s : Slices). s.words) filled) (omega (arith, ap (λ (x : Needed). x.words) needs, h.short))
+      stands c.from.words c.to.words (tables_of (read text)).words n.words text_limit
+      (ap (λ (s : Slices). s.words) (filled h lent took)) (omega (arith, ap (λ (x : Needed). x.words) needs, h.short))
       (ap (λ (x : Lengths). x.words) lent) (omega (arith, h.short))
 
-  pub floats-in : Stored (tables_of d).floats c.to.floats n.floats
+  pub floats-in : Stored (tables_of (read text)).floats c.to.floats n.floats
   floats-in =
       let f = (few text h).floats in
-      stands c.from.floats c.to.floats (tables_of d).floats n.floats float_room
-      (ap (λ (s : Slices). s.floats) filled) (ap (λ (x : Needed). x.floats) needs)
+      stands c.from.floats c.to.floats (tables_of (read text)).floats n.floats float_room
+      (ap (λ (s : Slices). s.floats) (filled h lent took)) (ap (λ (x : Needed). x.floats) needs)
       (ap (λ (x : Lengths). x.floats) lent) (omega (arith, h.short))
 
-  pub node-weights-in : Stored (tables_of d).node_weights c.to.node_weights n.node_weights
+  pub node-weights-in : Stored (tables_of (read text)).node_weights c.to.node_weights n.node_weights
   node-weights-in =
       let f = (few text h).node_weights in
-      stands c.from.node_weights c.to.node_weights (tables_of d).node_weights n.node_weights float_room
-      (ap (λ (s : Slices). s.node_weights) filled) (ap (λ (x : Needed). x.node_weights) needs)
+      stands c.from.node_weights c.to.node_weights (tables_of (read text)).node_weights n.node_weights float_room
+      (ap (λ (s : Slices). s.node_weights) (filled h lent took)) (ap (λ (x : Needed). x.node_weights) needs)
       (ap (λ (x : Lengths). x.node_weights) lent) (omega (arith, h.short))
 
-  pub mesh-weights-in : Stored (tables_of d).mesh_weights c.to.mesh_weights n.mesh_weights
+  pub mesh-weights-in : Stored (tables_of (read text)).mesh_weights c.to.mesh_weights n.mesh_weights
   mesh-weights-in =
       let f = (few text h).mesh_weights in
-      stands c.from.mesh_weights c.to.mesh_weights (tables_of d).mesh_weights n.mesh_weights float_room
-      (ap (λ (s : Slices). s.mesh_weights) filled) (ap (λ (x : Needed). x.mesh_weights) needs)
+      stands c.from.mesh_weights c.to.mesh_weights (tables_of (read text)).mesh_weights n.mesh_weights float_room
+      (ap (λ (s : Slices). s.mesh_weights) (filled h lent took)) (ap (λ (x : Needed). x.mesh_weights) needs)
       (ap (λ (x : Lengths). x.mesh_weights) lent) (omega (arith, h.short))
 
   -- what is printed of the tables is what is printed of the document
   text-is : bake_text (lent_as (take n.words c.to.words) (take n.floats c.to.floats)
       (take n.node_weights c.to.node_weights) (take n.mesh_weights c.to.mesh_weights) r.header)
-      r.node r.time ≡ baked_text d
+      r.node r.time ≡ baked_text (read text)
   unfolding baked_text
   text-is =
       λ j. bake_text (lent_as (words-in.taken j) (floats-in.taken j) (node-weights-in.taken j)
-      (mesh-weights-in.taken j) (answer j).header) (answer j).node (answer j).time
+      (mesh-weights-in.taken j) (answer h lent took j).header) (answer h lent took j).node (answer h lent took j).time
 
-  pub put-read : (out : Out) {left : Out}
-      → left ≡ pushes (bake_text (lent_as (take n.words c.to.words) (take n.floats c.to.floats)
-      (take n.node_weights c.to.node_weights) (take n.mesh_weights c.to.mesh_weights) r.header)
+  pub put-read : (out : Out) {left : Out} {words : List ℕ} {floats node_weights mesh_weights : List Float}
+      → left ≡ pushes (bake_text (lent_as (take n.words words) (take n.floats floats)
+      (take n.node_weights node_weights) (take n.mesh_weights mesh_weights) r.header)
       r.node r.time) out
-      → left ≡ pushes (baked_text d) out
-  put-read out p = p ∙ ap (λ (bs : List ℕ). pushes bs out) text-is
+      → words ≡ c.to.words → floats ≡ c.to.floats → node_weights ≡ c.to.node_weights
+      → mesh_weights ≡ c.to.mesh_weights → left ≡ pushes (baked_text (read text)) out
+  put-read out p a b d e =
+      p
+      ∙ (λ j. pushes (bake_text (lent_as (take n.words (a j)) (take n.floats (b j)) (take n.node_weights (d j))
+      (take n.mesh_weights (e j)) r.header) r.node r.time) out)
+      ∙ ap (λ (bs : List ℕ). pushes bs out) text-is

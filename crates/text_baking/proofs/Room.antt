@@ -6,12 +6,12 @@ use mathlib.Core.Option.{Option, none, some, some-injective, none-ne-some}
 use Prim.Native.Nat.{ℕ, zero, suc, ◌+◌, ◌*◌, ◌/◌, ◌≤◌}
 use native.Mathlib.Omega.{arith}
 use borrow.Author.Tests.{le-ltb, ltb-false}
-use lib.Dec.{T, ltb, eqb}
+use lib.Dec.{ltb}
 use lib.Ieee.{Float, binary32, of_bits}
-use lib.ListN.{length, get_or, get_elem?, replicate, length-replicate, length-map}
+use lib.ListN.{length, get_elem?, replicate, length-replicate, length-map}
 use Rattle.float.specs.F32.{zero32}
-use Rattle.model.specs.Lists.{pick, is_some, or_else, and_then, map_some, rows_in, sum_of}
-use Rattle.model.specs.Scene.{Scene, Mesh, Primitive, node_count, node_at, mesh_at}
+use Rattle.model.specs.Lists.{pick, is_some, or_else, and_then, map_some, rows_in}
+use Rattle.model.specs.Scene.{Scene, Mesh, node_count, node_at, mesh_at}
 use Rattle.model.specs.Placing.{child_entries}
 use Rattle.model.specs.Refusals.{bad_form, out_of_table, first_of, lowest, early_number as early_tests}
 use Rattle.model.specs.Bake.{bake, baked_after}
@@ -36,10 +36,8 @@ use Rattle.scene_forms.specs.Filled.{reals_of}
 use Rattle.scene_forms.specs.Laid.{items_of, field_at, item_of, items_from}
 use Rattle.scene_forms.specs.Read.{Slices}
 use Rattle.scene_forms.specs.Said.{forms_of, tables_of, header_of, node_of, time_of, leaves}
-use Rattle.scene_round.specs.Read.{lent_of}
-use Rattle.scene_round.specs.Meaning.{reals_at, maybe_rows, primitive_from, mesh_from, scene_from}
+use Rattle.scene_round.specs.Meaning.{reals_at, primitive_from, mesh_from, scene_from}
 use Rattle.scene_round.proofs.Said.{scene-said}
-use Rattle.scene_round.proofs.Tables.{Short}
 use Rattle.scene_text.specs.Reading.{read, room_tests}
 use Rattle.text_sizes.proofs.Listed.{slot_count, run-few, all-few}
 use Rattle.text_baking.specs.Printed.{text_limit, float_room, lent_by, room, baked_by, early_number, text_number}

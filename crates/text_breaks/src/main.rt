@@ -144,11 +144,10 @@ fn print_expected(out: &impl Print, text: &[u8], at: usize, s: Spot) -> io::Resu
 }
 
 fn report(out: &impl Print, text: &[u8]) -> io::Result<()> {
-    let found = scene_text::find_break(text);
-    if found.number == 0 {
+    let Some(place) = scene_text::find_break(text) else {
         return print(out, b"the text has a reading\n");
-    }
-    let at = found.at.min(text.len());
+    };
+    let at = place.min(text.len());
     let before = &text[..at];
     print(out, b"line ")?;
     print_number(out, lines::line_behind(before))?;

@@ -12,24 +12,8 @@ pub fn print_number(out: &impl Print, n: usize) -> io::Result<()> {
     print!(out; "{n}")
 }
 
-// So many letters, the first one lowest.
-fn print_letters(out: &impl Print, letters: usize, word: u64) -> io::Result<()> {
-    let mut v = word;
-    for _ in 0..letters {
-        let letter = [(v % 256) as u8];
-        print(out, &letter)?;
-        v /= 256;
-    }
-    Ok(())
-}
-
 pub fn print_name(out: &impl Print, name: Name) -> io::Result<()> {
-    let n = name.letters as usize;
-    if n <= 8 {
-        return print_letters(out, n, name.low);
-    }
-    print_letters(out, 8, name.low)?;
-    print_letters(out, n - 8, name.high)
+    print(out, name.letters)
 }
 
 // The titles from kind k on.

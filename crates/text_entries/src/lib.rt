@@ -8,9 +8,10 @@ ghost use Rattle.scene_text.specs.Breaks.{break_for};
 ghost use Rattle.scene_text.specs.Reading.{SceneRead, room_of};
 ghost use Rattle.scene_writing.specs.Writing.{scene_text, SceneWritten, length_for};
 
+use scene_forms::Tables;
 use scene_text::{Break, Needed, Reading};
 use scene_writing::Written;
-use tables::Header;
+use tables::{Header, Lent};
 
 // Reads a scene from a text into four tables, each filled from its start. Answers 13, 1, 10 or 0.
 #[unsafe(no_mangle)]
@@ -23,7 +24,13 @@ pub extern "C" fn mesh3d_read_scene(
 ) -> Reading
     ensures { SceneRead text.now (slices words floats node_weights mesh_weights) result }
 {
-    scene_text::read_scene(text, words, floats, node_weights, mesh_weights)
+    let mut tables = Tables {
+        words,
+        floats,
+        node_weights,
+        mesh_weights,
+    };
+    Reading::from(scene_text::read_scene(text, &mut tables))
 }
 
 // How long the tables must be that a text is read into. Answers 13, 1 or 0.
@@ -31,7 +38,7 @@ pub extern "C" fn mesh3d_read_scene(
 pub extern "C" fn mesh3d_text_room(text: &[u8]) -> Needed
     ensures { result ≡ room_of text.now }
 {
-    scene_text::text_room(text)
+    Needed::from(scene_text::text_room(text))
 }
 
 // Where a text breaks. Answers 13 or 0, and the place.
@@ -39,7 +46,7 @@ pub extern "C" fn mesh3d_text_room(text: &[u8]) -> Needed
 pub extern "C" fn mesh3d_find_break(text: &[u8]) -> Break
     ensures { result ≡ break_for text.now }
 {
-    scene_text::find_break(text)
+    Break::from(scene_text::find_break(text))
 }
 
 // Writes a lent scene as text, with the node and the time that are asked for, to the start of `out`. Answers 1, 2, 10
@@ -58,16 +65,14 @@ pub extern "C" fn mesh3d_write_scene(
     ensures { let l = scene_lent words floats node_weights mesh_weights header in
         SceneWritten l (scene_text l node time) out result }
 {
-    scene_writing::write_scene(
+    let lent = Lent {
         words,
         floats,
         node_weights,
         mesh_weights,
         header,
-        node,
-        time,
-        out,
-    )
+    };
+    Written::from(scene_writing::write_scene(lent, node, time, out))
 }
 
 // How long that text is. Answers 1, 2 or 0.
@@ -84,13 +89,12 @@ pub extern "C" fn mesh3d_text_length(
     ensures { result ≡ (let l = scene_lent words floats node_weights mesh_weights header in
         length_for l (scene_text l node time)) }
 {
-    scene_writing::text_length(
+    let lent = Lent {
         words,
         floats,
         node_weights,
         mesh_weights,
         header,
-        node,
-        time,
-    )
+    };
+    Written::from(scene_writing::text_length(lent, node, time))
 }

@@ -41,7 +41,7 @@ fn sample_decoded(
         ≡ sampled_in (floats_in table.now) t time weights.old)
         × (room.new ≡ written (floats_in table.now) room.old) }
 {
-    let n = wire::read_floats(table, room);
+    let n = wire::read(table, room);
     animation::sample(&room[..n], t, time, weights)
 }
 
@@ -70,7 +70,7 @@ fn deliver(sampled: SampledValue, weights: &[f32], value: &mut [u8; 16], out: &m
     match sampled {
         SampledValue::Vec3(v) => {
             let floats = [v.x, v.y, v.z];
-            wire::write_floats(&floats, value);
+            wire::write(&floats, value);
             Told {
                 number: 0,
                 count: 0,
@@ -78,14 +78,14 @@ fn deliver(sampled: SampledValue, weights: &[f32], value: &mut [u8; 16], out: &m
         }
         SampledValue::Quat(q) => {
             let floats = [q.x, q.y, q.z, q.w];
-            wire::write_floats(&floats, value);
+            wire::write(&floats, value);
             Told {
                 number: 0,
                 count: 0,
             }
         }
         SampledValue::Scalar(n) => {
-            let count = wire::write_floats(&weights[..n], out);
+            let count = wire::write(&weights[..n], out);
             Told { number: 0, count }
         }
     }
@@ -146,6 +146,6 @@ pub extern "C" fn mesh3d_sample(
     let t = tables::track_of(row);
     let time = float::from_bits(time);
     let mut weights = [0.0f32; WEIGHT_LIMIT];
-    let most = wire::least(out.len() / 4, WEIGHT_LIMIT);
+    let most = (out.len() / 4).min(WEIGHT_LIMIT);
     sample_over(table, t, time, room, &mut weights[..most], value, out)
 }

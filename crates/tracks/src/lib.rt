@@ -2,6 +2,7 @@
 // the table draws.
 #![tactic(auto)]
 
+mod codes;
 mod keys;
 mod layout;
 mod numbers;

@@ -38,15 +38,6 @@ in_block w k i n h b =
     let c : suc (k + i) ≤ k + 16 = omega arith in
     omega (arith, suc-mul (k + i) w, mul-le-mul_right w c)
 
-pub block-fits : (w b n : ℕ) → b < n / w / 16 → (b * 16 + 16) * w ≤ n
-block-fits w b n h =
-    let c : b * 16 + 16 ≤ n / w = omega arith in
-    omega (arith, mul-le-mul_right w c, div-mul-le_self n w)
-
-pub row_number : (w j : ℕ) → 3 ≤ w → j ≤ j * w
-row_number w zero h = omega arith
-row_number w (suc j) h = omega (arith, suc-mul j w, row_number w j h)
-
 pub has-row : (w j n : ℕ) → 0 < w → j * w + w ≤ n → j < n / w
 has-row w j n p h =
     let c : suc j * w ≤ n = omega (arith, suc-mul j w) in

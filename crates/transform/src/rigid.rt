@@ -1,4 +1,5 @@
 ghost use Rattle.std.specs.Prelude.{◌≡◌, map};
+ghost use Rattle.borrowed.specs.Attributes.{positions_in, normals_in, tangents_in, SameSlices};
 ghost use Rattle.borrowed.specs.InPlace.{InPlace};
 ghost use Rattle.model.specs.Lists.{rows_in};
 ghost use Rattle.model.specs.Vertices.{turned_normal, transformed};
@@ -8,6 +9,7 @@ ghost use Rattle.vertex_rows.specs.Rows.{tangent_by};
 ghost use Rattle.transform.specs.Rigid.{TurnsAll};
 
 use crate::blocks::turn_rows;
+use borrowed::Vertices;
 use scene::{Mat3, Mat4};
 use vertex_rows::{flip_tangents, transform_positions};
 
@@ -42,9 +44,10 @@ fn transform_directions(m: Mat4, normals: &mut [f32], tangents: &mut [f32])
 
 // Moves all vertices by m: positions with the perspective division, normals by the normal matrix, tangents by the
 // linear part. An attribute that is absent has an empty slice.
-pub fn transformed(m: Mat4, positions: &mut [f32], normals: &mut [f32], tangents: &mut [f32])
-    ensures { InPlace (transformed m.m) positions normals tangents }
+pub fn transformed(m: Mat4, out: &mut Vertices<'_>)
+    ensures moved { InPlace (transformed m.m) (positions_in out) (normals_in out) (tangents_in out) }
+    ensures same_slices { SameSlices out.old out.new }
 {
-    transform_positions(m, positions);
-    transform_directions(m, normals, tangents);
+    transform_positions(m, out.positions);
+    transform_directions(m, out.normals, out.tangents);
 }

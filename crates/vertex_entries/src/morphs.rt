@@ -3,7 +3,8 @@ ghost use Rattle.model.specs.Morph.{with_targets};
 ghost use Rattle.model.specs.Attributes.{shape_of};
 ghost use Rattle.mesh.specs.Lent.{targets_in};
 
-use tables::Header;
+use borrowed::Vertices;
+use tables::{Header, Lent};
 use tracks::Part;
 
 // Adds the targets of a part, at these weights, to vertices that lie in flat slices.
@@ -28,7 +29,17 @@ pub extern "C" fn mesh3d_morphed_floats(
         at: targets_at,
         count: targets_count,
     };
-    mesh::morphed(
-        words, floats, header, targets, weights, positions, normals, tangents,
-    );
+    let lent = Lent {
+        words,
+        floats,
+        node_weights: &[],
+        mesh_weights: &[],
+        header,
+    };
+    let mut out = Vertices {
+        positions,
+        normals,
+        tangents,
+    };
+    mesh::morphed(lent, targets, weights, &mut out);
 }

@@ -2,7 +2,9 @@ ghost use Rattle.borrowed.specs.InPlace.{InPlace};
 ghost use Rattle.model.specs.Lists.{rows_in};
 ghost use Rattle.model.specs.Vertices.{transformed, skinned};
 
+use borrowed::Vertices;
 use scene::Mat4;
+use vertex_rows::Influences;
 
 // Moves all vertices by m.
 #[unsafe(no_mangle)]
@@ -15,7 +17,12 @@ pub extern "C" fn mesh3d_transformed_floats(
     ensures { InPlace (transformed m.now) positions normals tangents }
 {
     let m = *m;
-    transform::transformed(Mat4 { m }, positions, normals, tangents);
+    let mut out = Vertices {
+        positions,
+        normals,
+        tangents,
+    };
+    transform::transformed(Mat4 { m }, &mut out);
 }
 
 // Moves each vertex by the matrices of its joints.
@@ -31,5 +38,15 @@ pub extern "C" fn mesh3d_skinned_floats(
     ensures { InPlace (skinned (rows_in 16 palette.now) (rows_in 4 joints.now)
         (rows_in 4 weights.now)) positions normals tangents }
 {
-    skinning::skinned(palette, joints, weights, positions, normals, tangents);
+    let by = Influences {
+        palette,
+        joints,
+        weights,
+    };
+    let mut out = Vertices {
+        positions,
+        normals,
+        tangents,
+    };
+    skinning::skinned(by, &mut out);
 }

@@ -9,7 +9,7 @@ use native.Mathlib.Omega.{arith}
 use lib.Ieee.{Float, nan, lt}
 use lib.Ieee.Scale.{finite}
 use lib.ListN.{length, get_or, get_elem?, take, drop, replicate}
-use lib.Seq.{get_or-take, get_or-drop, take_all}
+use lib.Seq.{get_or-take, get_or-drop}
 use Rattle.float.specs.F32.{zero32}
 use Rattle.model.specs.Lists.{pick, foldl, and_then, row, rows_in}
 use Rattle.model.specs.Vector.{Vector, ◌⊙◌, ◌⊞◌}
@@ -123,11 +123,6 @@ module _ (p : List Matrix) (joints : List ℕ) (weights : List Float) (v : ℕ) 
         ∙ sym (influences-more p (row 4 joints v) (row 4 weights v) e (omega (arith, row-length 4 joints v h)) (omega (arith, row-length 4 weights v g)))
         ∙ ap first (sym (add-one e)) in
         a.adds (first e) k ∙ ap mixture u
-
-    pub all-four : (e : ℕ) → e ≡ 4 → first e ≡ influences p (row 4 joints v) (row 4 weights v)
-    all-four e s =
-        (λ x. influences p (take (s x) (row 4 joints v)) (take (s x) (row 4 weights v)))
-        ∙ (λ x. influences p (take_all 4 (row 4 joints v) (omega (arith, row-length 4 joints v h)) x) (take_all 4 (row 4 weights v) (omega (arith, row-length 4 weights v g)) x))
 
     pub has-rows : mixture (influences p (row 4 joints v) (row 4 weights v)) ≡ joint_matrix p (rows_in 4 joints) (rows_in 4 weights) v
     has-rows = sym (λ x. and_then (row-there 4 joints v h x) (λ js. and_then (row-there 4 weights v g x) (λ ws. mixture (influences p js ws))))

@@ -13,7 +13,7 @@ use Rattle.model.specs.Vertices.{turned_unit, turned_normal, turned_tangent}
 use Rattle.vertex_rows.specs.Rows.{tangent_by, row_changed}
 use Rattle.vertex_rows.specs.Blending.{Turned}
 use Rattle.vertex_rows.proofs.RowSteps.{row_kept}
-use Rattle.scene.specs.Values.{vec3, mat3, unit_of, linear_of}
+use Rattle.scene.specs.Values.{vec3, unit_of, linear_of}
 use Rattle.scene.specs.declared.Vec3.{Vec3}
 use Rattle.scene.specs.declared.Mat3.{Mat3}
 use Rattle.std.proofs.Common as rust
@@ -29,9 +29,6 @@ by-direction l v t d product told = either d ∙ ap (λ (o : Option Vector). or_
 
 -- ---- by a normal matrix n
 module _ (n : rust.Option Mat3) (lent : List Float) where
-  pub normal-turned : (l : Mat3) (k : ℕ) (left : List Float) → n ≡ rust.Some l → left ≡ row_changed 3 (turned_unit (mat3 l)) k lent → left ≡ row_changed 3 (turned_normal (linear_of n)) k lent
-  normal-turned l k left e p = p ∙ sym (ap (λ (x : rust.Option Mat3). row_changed 3 (turned_normal (linear_of x)) k lent) e)
-
   pub normal-left : (k : ℕ) → n ≡ rust.None → lent ≡ row_changed 3 (turned_normal (linear_of n)) k lent
   normal-left k e = row_kept 3 k lent ∙ sym (ap (λ (x : rust.Option Mat3). row_changed 3 (turned_normal (linear_of x)) k lent) e)
 

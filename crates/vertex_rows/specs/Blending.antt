@@ -3,6 +3,7 @@ use Rattle.std.specs.Prelude.{◌≡◌, List, [], ◌∷◌, ◌++◌, ℕ, Flo
 use Rattle.std.specs.Prelude as rust
 use Rattle.std.proofs.Math.Option.{Option}
 use Rattle.borrowed.specs.Slices.{Floats}
+use Rattle.borrowed.specs.Attributes.{Attributes}
 use Rattle.model.specs.Matrix.{Matrix, inverse_transpose}
 use Rattle.model.specs.Vertices.{Influence, influences, mixture, by_matrix, affine_point, turned_normal, turned_tangent}
 use Rattle.scene.specs.declared.Mat4.{Mat4}
@@ -31,7 +32,7 @@ pub record Skinned (o : Option Matrix) (v : ℕ)
   pub normals : left_normals ≡ row_changed 3 (by_matrix (λ m y. turned_normal (inverse_transpose m) y) o) v lent_normals
   pub tangents : left_tangents ≡ row_changed 4 (by_matrix turned_tangent o) v lent_tangents
 
-abbrev pub SkinnedIn : Option Matrix → ℕ → Floats → Floats → Floats → Type 0
-SkinnedIn o v positions normals tangents =
-    Skinned o v positions.entry.now positions.exit.now
-    normals.entry.now normals.exit.now tangents.entry.now tangents.exit.now
+abbrev pub SkinnedIn : Option Matrix → ℕ → Attributes → Type 0
+SkinnedIn o v out =
+    Skinned o v out.entry.now.positions.now out.exit.now.positions.now
+    out.entry.now.normals.now out.exit.now.normals.now out.entry.now.tangents.now out.exit.now.tangents.now

@@ -9,10 +9,12 @@ ghost use Rattle.vertex_rows.specs.Blending.{Added};
 
 use scene::Mat4;
 
-fn wide(x: u32) -> usize
-    ensures { (result ≡ x) × (result < 4294967296) }
-{
-    x as usize
+// The joints that move vertices, four joints and four weights a vertex, and their matrices, sixteen floats a joint.
+#[derive(Clone, Copy)]
+pub struct Influences<'a> {
+    pub palette: &'a [f32],
+    pub joints: &'a [u32],
+    pub weights: &'a [f32],
 }
 
 fn counts(w: f32) -> bool
@@ -35,26 +37,31 @@ fn add_influence(sum: Option<Mat4>, palette: &[f32], j: usize, w: f32) -> Option
 }
 
 // The influences of vertex v, which has a row of each, added up.
-fn blend_row(palette: &[f32], joints: &[u32], weights: &[f32], v: usize) -> Option<Mat4>
-    requires { (v < length joints.now / 4) × (v < length weights.now / 4) }
-    ensures { matrix_of result ≡ mixture (influences (rows_in 16 palette.now)
-        (row 4 joints.now v) (row 4 weights.now v)) }
+fn blend_row(by: Influences, v: usize) -> Option<Mat4>
+    requires { (v < length by.joints.now / 4) × (v < length by.weights.now / 4) }
+    ensures { matrix_of result ≡ mixture (influences (rows_in 16 by.entry.palette.now)
+        (row 4 by.entry.joints.now v) (row 4 by.entry.weights.now v)) }
 {
     let mut sum = None;
     for e in 0..4 {
-        sum = add_influence(sum, palette, wide(joints[v * 4 + e]), weights[v * 4 + e]);
+        sum = add_influence(
+            sum,
+            by.palette,
+            by.joints[v * 4 + e] as usize,
+            by.weights[v * 4 + e],
+        );
     }
     sum
 }
 
 // The matrix of vertex v, its weighted joint matrices added up; none where no influence counts.
-pub fn joint_matrix(palette: &[f32], joints: &[u32], weights: &[f32], v: usize) -> Option<Mat4>
-    ensures { matrix_of result ≡ joint_matrix (rows_in 16 palette.now) (rows_in 4 joints.now)
-        (rows_in 4 weights.now) v }
+pub fn joint_matrix(by: Influences, v: usize) -> Option<Mat4>
+    ensures { matrix_of result ≡ joint_matrix (rows_in 16 by.entry.palette.now) (rows_in 4 by.entry.joints.now)
+        (rows_in 4 by.entry.weights.now) v }
 {
-    if v < joints.len() / 4 {
-        if v < weights.len() / 4 {
-            return blend_row(palette, joints, weights, v);
+    if v < by.joints.len() / 4 {
+        if v < by.weights.len() / 4 {
+            return blend_row(by, v);
         }
     }
     None

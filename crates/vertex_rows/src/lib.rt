@@ -9,7 +9,7 @@ mod rows;
 mod vertices;
 
 pub use directions::{flip_tangent, flip_tangents};
-pub use influences::joint_matrix;
+pub use influences::{Influences, joint_matrix};
 pub use positions::{move_position, transform_positions};
 pub use rows::{load3, store3};
 pub use vertices::skin_vertex;

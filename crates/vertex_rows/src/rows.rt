@@ -25,6 +25,7 @@ pub fn load3(s: &[f32], at: usize) -> Vec3
     }
 }
 
+// A tangent: the three floats from `at` on, and the one after them.
 pub(crate) fn load4(s: &[f32], at: usize) -> Tangent
     requires { at + 4 ≤ length s.now }
     ensures { tangent result ≡ part s.now at 4 }
@@ -46,12 +47,11 @@ pub fn store3(s: &mut [f32], at: usize, v: Vec3)
     s[at + 2] = v.z;
 }
 
+// Writes a tangent: three floats from `at` on, and one after them.
 pub(crate) fn store4(s: &mut [f32], at: usize, t: Tangent)
     requires { at + 4 ≤ length s.old }
     ensures { s.new ≡ paste s.old at (tangent t) 4 }
 {
-    s[at] = t.direction.x;
-    s[at + 1] = t.direction.y;
-    s[at + 2] = t.direction.z;
+    store3(s, at, t.direction);
     s[at + 3] = t.handedness;
 }

@@ -2,7 +2,6 @@
 use Rattle.std.specs.Prelude.{◌≡◌, List, [], ◌∷◌, ◌++◌, ℕ, ◌+◌, ◌*◌, ◌/◌, ◌%◌, min, Float, length, get_or, take, drop}
 use Rattle.std.specs.Float.{binary32}
 use Rattle.std.specs.Float.Ieee.{of_bits, to_bits}
-use Rattle.borrowed.specs.Slices.{SharedWords, SharedFloats, Words}
 use Rattle.model.specs.Lists.{tabulate}
 
 -- the word whose first byte is byte i
@@ -42,10 +41,3 @@ pub record WroteAs {A : Type 0} (g : A → ℕ) (entries : List A) (lent left : 
 
 abbrev pub WroteBytes : List Float → List ℕ → List ℕ → ℕ → Type 0
 WroteBytes floats lent left count = WroteAs (to_bits binary32) floats lent left count
-
--- in bytes that are borrowed
-abbrev pub WritesWords : SharedWords → Words → ℕ → Type 0
-WritesWords words bytes count = WroteAs (λ w. w) words.entry.now bytes.entry.now bytes.exit.now count
-
-abbrev pub WritesFloats : SharedFloats → Words → ℕ → Type 0
-WritesFloats floats bytes count = WroteBytes floats.entry.now bytes.entry.now bytes.exit.now count

@@ -1,17 +1,11 @@
 // Little-endian words and floats in byte slices. Every NaN pattern is read as the one NaN, which is written 7fc00000.
 #![tactic(auto)]
 
-ghost use Rattle.std.specs.Prelude.{◌≡◌, ℕ, ◌++◌, ◌+◌, ◌≤◌, min, length, get_or, take, drop, from_bits, to_bits};
+ghost use Rattle.std.specs.Prelude.{◌≡◌, ℕ, ◌++◌, ◌+◌, ◌≤◌, length, get_or, take, drop, from_bits, to_bits};
 ghost use Rattle.std.specs.Float.{binary32, nan};
 ghost use Rattle.borrowed.specs.Written.{Writes};
-ghost use Rattle.wire.specs.Bytes.{word_at, read_as, words_in, floats_in, word_bytes};
-ghost use Rattle.wire.specs.Bytes.{WroteAs, WritesWords, WritesFloats};
-
-pub fn least(a: usize, b: usize) -> usize
-    ensures { result ≡ min a b }
-{
-    a.min(b)
-}
+ghost use Rattle.wire.specs.Bytes.{word_at, read_as, floats_in, word_bytes};
+ghost use Rattle.wire.specs.Bytes.{WroteAs};
 
 // Copies to the start of `out` as much as there is room for, and answers how much.
 pub fn copy_floats(part: &[f32], out: &mut [f32]) -> usize
@@ -110,28 +104,4 @@ pub fn write<T: Entry>(entries: &[T], bytes: &mut [u8]) -> usize
         put_word(bytes, i * 4, entries[i].to_word());
     }
     n
-}
-
-pub fn read_words(bytes: &[u8], words: &mut [u32]) -> usize
-    ensures { Writes (words_in bytes.now) words result }
-{
-    read(bytes, words)
-}
-
-pub fn read_floats(bytes: &[u8], floats: &mut [f32]) -> usize
-    ensures { Writes (floats_in bytes.now) floats result }
-{
-    read(bytes, floats)
-}
-
-pub fn write_words(words: &[u32], bytes: &mut [u8]) -> usize
-    ensures { WritesWords words bytes result }
-{
-    write(words, bytes)
-}
-
-pub fn write_floats(floats: &[f32], bytes: &mut [u8]) -> usize
-    ensures { WritesFloats floats bytes result }
-{
-    write(floats, bytes)
 }

@@ -2,13 +2,13 @@
 -- one that is asked for: it is skinned, its joint is node 1, which stands under node 0, and both have a track. Node 3
 -- is the other maker's. Definitions only.
 use Rattle.std.specs.Prelude.{◌≡◌, List, [], ◌∷◌, ◌++◌, ℕ, Float}
-use Rattle.std.proofs.Math.Option.{Option, none, some}
+use Rattle.std.proofs.Math.Option.{none, some}
 use Rattle.float.specs.F32.{f32, zero32, one32}
 use Rattle.model.specs.Vector.{Vector}
 use Rattle.model.specs.Matrix.{Matrix}
 use Rattle.model.specs.Transform.{Transform, parts, matrix}
 use Rattle.model.specs.Scene.{Node, Track, translation, scale, morph_weights, vec3s, scalars, step, linear}
-use Rattle.model.specs.Scene.{Primitive, Mesh, Skin, Skeleton, Scene, node_at}
+use Rattle.model.specs.Scene.{Primitive, Mesh, Skeleton, Scene, node_at}
 
 abbrev pub half32 : Float
 half32 = f32 0x3f00_0000

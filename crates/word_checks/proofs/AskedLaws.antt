@@ -34,8 +34,7 @@ use Rattle.row_checks.specs.Places.{in_between_fits, skeleton_fits}
 use Rattle.row_checks.specs.Bounds.{is_known, slot_within, node_within, tags_known, mesh_within, primitive_within}
 use Rattle.row_checks.specs.Bounds.{target_within, in_between_within, skin_within, skeleton_within}
 use Rattle.checks.specs.Drawn.{drawn, lower_of, entries_number}
-use Rattle.word_checks.specs.declared.Asked.{Asked}
-use Rattle.word_checks.specs.Words.{leaves, over, asks, part_asked, slot_asked, held_asked, node_asked, frames_within}
+use Rattle.word_checks.specs.Words.{Asked, leaves, over, asks, part_asked, slot_asked, held_asked, node_asked, frames_within}
 use Rattle.word_checks.specs.Words.{channel_asked, mesh_asked, primitive_asked, target_asked, in_between_asked}
 use Rattle.word_checks.specs.Words.{skin_asked, skeleton_asked, lowest_of, lowest_asked}
 use Rattle.word_checks.proofs.Lower.{lower-right, lower-comm, lower-assoc, lower-left-comm, lowest-append}

@@ -3,16 +3,26 @@ use mathlib.Core.Path.{◌≡◌, refl, sym, ap, ◌∙◌}
 use mathlib.Core.Bool.{Bool}
 use mathlib.Core.List.{List, [], ◌∷◌, ◌++◌}
 use Prim.Native.Nat.{ℕ}
+use borrow.Author.Tests.{eq-eqb, ne_eqb}
 use lib.Dec.{eqb}
 use Rattle.model.specs.Lists.{pick}
-use Rattle.word_checks.specs.declared.Asked.{Asked}
-use Rattle.word_checks.specs.Words.{leaves, over, asks, first_asked}
+use Rattle.word_checks.specs.Words.{Asked, leaves, over, asks, first_asked}
 
 pub first-append : (n : ℕ) (xs ys : List Asked) (d : Asked)
     → first_asked n (xs ++ ys) d ≡ first_asked n xs (first_asked n ys d)
 unfolding first_asked
 first-append n [] ys d = refl
 first-append n (x ∷ xs) ys d = ap (pick (eqb x.number n) x) (first-append n xs ys d)
+
+-- one word, which draws n or does not
+module _ (w n : ℕ) (rest : Asked) where
+  pub met : (drawn : ℕ) → drawn ≡ n → asks w n ≡ first_asked n (asks w drawn ∷ []) rest
+  unfolding first_asked
+  met drawn e = λ j. pick (sym (eq-eqb drawn n e) j) (asks w (sym e j)) rest
+
+  pub not_met : (drawn : ℕ) → (drawn ≡ n → ⊥) → rest ≡ first_asked n (asks w drawn ∷ []) rest
+  unfolding first_asked
+  not_met drawn h = ap (λ (b : Bool). pick b (asks w drawn) rest) (sym (ne_eqb drawn n h))
 
 module _ (n : ℕ) (ys : List Asked) (d r rest : Asked) (later : rest ≡ first_asked n ys d) where
   pub before-all : (xs : List Asked) → r ≡ first_asked n xs rest → r ≡ first_asked n (xs ++ ys) d
@@ -28,10 +38,6 @@ module _ (n : ℕ) (ys : List Asked) (d r rest : Asked) (later : rest ≡ first_
   unfolding first_asked
   before-over w told within t e = e ∙ (λ j. first_asked n (asks w (over (t j)) ∷ []) (later j))
 
--- the last of the lists
-pub at_last : (n : ℕ) (xs : List Asked) (d r rest : Asked) → rest ≡ d → r ≡ first_asked n xs rest → r ≡ first_asked n xs d
-at_last n xs d r rest later e = e ∙ ap (first_asked n xs) later
-
-pub none_left : (n : ℕ) (d rest : Asked) → rest ≡ d → rest ≡ first_asked n [] d
+pub none_left : (n : ℕ) (d : Asked) → d ≡ first_asked n [] d
 unfolding first_asked
-none_left n d rest e = e
+none_left n d = refl

@@ -1,3 +1,4 @@
+pub mod ByNumber
 pub mod Firsts
 pub mod Lower
 pub mod AskedLaws

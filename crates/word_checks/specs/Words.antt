@@ -1,12 +1,15 @@
 -- What is asked of each word of a record of a lent scene, in the order of the words: beside the word stands the number
 -- that it draws, 1 where what it places leaves its table, 2 where it is over a limit, 0 where it is right
 -- (docs/TABLES.md). Definitions only.
+use Rattle.std.specs.Prelude as rust
 use Rattle.std.specs.Prelude.{Bool, true, List, [], ◌∷◌, ◌++◌, ℕ, ◌+◌, eqb, ltb, leb}
 use Rattle.model.specs.Lists.{pick}
 use Rattle.model.specs.Limits.{child_entry_limit, key_limit, weight_limit, joint_limit, primitive_limit, vertex_limit}
 use Rattle.model.specs.Limits.{target_limit, in_between_limit}
 use Rattle.model.specs.Sampling.{width, factor}
 use Rattle.model.specs.Refusals.{is_scalars}
+use Rattle.refusals.specs.declared.Refusal.{Refusal}
+use Rattle.refusals.specs.Drawn.{number_of}
 use Rattle.tracks.specs.declared.Part.{Part}
 use Rattle.tracks.specs.declared.Track.{Track}
 use Rattle.tracks.specs.Values.{interpolation_of, kind_of}
@@ -29,9 +32,13 @@ use Rattle.row_checks.specs.Bounds.{is_known}
 use Rattle.checks.specs.declared.Table.{Table}
 use Rattle.checks.specs.declared.Table.TheVariants as table
 use Rattle.checks.specs.Drawn.{drawn, lower_of}
-use Rattle.word_checks.specs.declared.Asked.{Asked}
 
 -- ---- words
+
+-- a word of a record, and the number that it draws
+pub record Asked : Type 0 where
+  pub word : ℕ
+  pub number : ℕ
 
 -- 1 where something leaves its table, 2 where it is not within its limit
 abbrev pub leaves : Bool → ℕ
@@ -146,6 +153,11 @@ row_asked words s t table.Skeletons i entries = skeleton_asked s (skeleton_row w
 
 abbrev pub nothing : Asked
 nothing = asks 0 0
+
+-- a word that draws a refusal, or none
+abbrev pub word_drawn : Refusal → rust.Option ℕ → Asked
+word_drawn n (rust.Some w) = asks w (number_of n)
+word_drawn n rust.None = nothing
 
 -- the first word that draws n, or else the one given
 unfoldable pub first_asked : ℕ → List Asked → Asked → Asked

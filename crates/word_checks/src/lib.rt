@@ -6,10 +6,3 @@ mod records;
 mod steps;
 
 pub use records::row_word;
-
-// A word of a record, and the number that it draws.
-#[derive(Clone, Copy)]
-pub struct Asked {
-    pub word: u32,
-    pub number: u32,
-}

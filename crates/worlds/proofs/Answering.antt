@@ -1,13 +1,12 @@
 -- The number of a placing, by what the tables draw and the room. Assumes nothing.
-use mathlib.Core.Path.{◌≡◌, refl, sym, ap, ◌∙◌}
-use mathlib.Core.Bool.{Bool, true, false, ◌||◌}
-use mathlib.Core.List.{List, [], ◌∷◌}
+use mathlib.Core.Path.{◌≡◌, sym, ap, ◌∙◌}
+use mathlib.Core.Bool.{Bool, ◌||◌}
+use mathlib.Core.List.{[], ◌∷◌}
 use Prim.Native.Nat.{ℕ, ◌+◌}
 use native.Mathlib.Omega.{arith}
 use lib.Dec.{ltb}
 use lib.ListN.{length}
 use Rattle.model.specs.Lists.{pick}
-use Rattle.model.specs.Scene.{node_count}
 use Rattle.model.specs.Placing.{child_entries}
 use Rattle.model.specs.Refusals.{short_scratch, first_of, lowest, Scratch, scratch_is_short, place_number}
 use Rattle.model.proofs.Numbers.{lowest-some}

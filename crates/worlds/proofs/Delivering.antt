@@ -2,32 +2,31 @@
 use mathlib.Core.Path.{◌≡◌, refl, sym, ap, ◌∙◌}
 use mathlib.Core.Bool.{Bool, true, false, true≢false, ◌||◌}
 use mathlib.Core.List.{List, [], ◌∷◌, ◌++◌, Memᴰ}
-use mathlib.Core.Option.{Option, none, some}
-use Prim.Native.Nat.{ℕ, zero, suc, ◌+◌, ◌*◌, ◌/◌, ◌≤◌, ◌<◌, min}
+use mathlib.Core.Option.{Option, none}
+use Prim.Native.Nat.{ℕ, zero, suc, ◌+◌, ◌*◌, ◌≤◌, ◌<◌}
 use native.Mathlib.Omega.{arith}
-use borrow.Author.Tests.{ltb-false, ne_eqb, eq-eqb}
-use lib.Dec.{ltb, eqb}
+use borrow.Author.Tests.{ltb-false, ne_eqb}
+use lib.Dec.{ltb}
 use lib.Ieee.{Float}
 use lib.ListN.{length, get_or, drop, replicate}
-use Rattle.model.specs.Lists.{pick, foldl, tabulate}
+use Rattle.model.specs.Lists.{pick, foldl}
 use Rattle.model.specs.Matrix.{Matrix}
 use Rattle.model.specs.Transform.{to_matrix}
-use Rattle.model.specs.Scene.{Scene, Node, node_count, node_at}
-use Rattle.model.specs.Pose.{Pose, at_rest, local_transform}
+use Rattle.model.specs.Scene.{Scene, node_count}
+use Rattle.model.specs.Pose.{at_rest, local_transform}
 use Rattle.model.specs.Placing.{Entry, child_entries, order, places, taken}
 use Rattle.model.specs.World.{local_at, place_one, worlds_from, worlds}
-use Rattle.model.specs.Refusals.{short_scratch, first_of, lowest, Scratch, scratch_is_short, place_number}
+use Rattle.model.specs.Refusals.{first_of, lowest, Scratch, scratch_is_short, place_number}
 use Rattle.model.proofs.ListLaws.{get_d_tabulate}
 use Rattle.model.proofs.Placed.{placed-in-range}
-use Rattle.tables.specs.Records.{node_row}
-use Rattle.tables.specs.Decoded.{Lent, base_of, scene_of}
+use Rattle.tables.specs.Decoded.{Lent, scene_of}
 use Rattle.tables.specs.Codes.{codes_of}
 use Rattle.tables.proofs.Decoding.{node-count, node-at}
 use Rattle.checks.specs.Drawn.{tables_number}
 use Rattle.checks.proofs.Clearing.{checked}
 use Rattle.placing.specs.Walk.{listing_in, entries_of}
 use Rattle.placing.proofs.Linked.{same-listing, order-linked, places-linked, taken-linked, room-linked}
-use Rattle.pose_slots.specs.Slots.{room, pose_in}
+use Rattle.pose_slots.specs.Slots.{pose_in}
 use Rattle.worlds.specs.Slots.{slots_of}
 use Rattle.worlds.specs.Posed.{local_in}
 use Rattle.worlds.specs.Placed.{scratch_of, poses_in, Run, Placed}

@@ -1,8 +1,8 @@
 -- The world slots after a run of the placing. Assumes nothing.
 use mathlib.Core.Path.{◌≡◌, refl, sym, ap, ◌∙◌}
-use mathlib.Core.Bool.{Bool, true, false, true≢false}
-use mathlib.Core.List.{List, [], ◌∷◌, ◌++◌, map, append-nil, Memᴰ}
-use mathlib.Core.Option.{Option, none, some}
+use mathlib.Core.Bool.{true≢false}
+use mathlib.Core.List.{List, [], ◌∷◌, ◌++◌, map, Memᴰ}
+use mathlib.Core.Option.{none}
 use Prim.Native.Nat.{ℕ, zero, suc, ◌+◌, ◌*◌, ◌≤◌, ◌<◌}
 use native.Mathlib.Nat.{suc-mul}
 use native.Mathlib.Omega.{arith}
@@ -22,7 +22,7 @@ use Rattle.model.proofs.Paths.{replicate-at}
 use Rattle.model.proofs.Placed.{placed-in-range}
 use Rattle.tables.specs.Codes.{code_of, codes_of}
 use Rattle.placing.specs.Walk.{Walked}
-use Rattle.worlds.specs.Slots.{slot_of, slots_of, placed_in}
+use Rattle.worlds.specs.Slots.{slots_of, placed_in}
 use Rattle.worlds.proofs.Stepping.{rows-zero, Having, Told, get_d_map, placed-slots}
 
 -- ---- before the first node
@@ -79,15 +79,15 @@ module _ (s : Scene) (room codes ids : Change (List ℕ)) (taken placed : ℕ)
       ∙ get_d_map code_of (places s) e.node unplaced 0 b
       ∙ ap code_of p.1)
 
-  -- from empty slots, the nodes in order
-  pub all-worlds : (local : ℕ → Matrix) (m : ℕ) → m ≡ node_count s * 16
-      → foldl (placed_in local codes.to) (replicate m zero32) (take placed ids.to) ≡ slots_of (worlds_from local (replicate (node_count s) none) (order s))
-  all-worlds local m e =
-      (λ j. foldl (placed_in local codes.to) (empty j) (nodes-in-order j))
-      ∙ placed-slots local codes.to [] (order s) (start s) (replicate (node_count s) none) (rows-zero (node_count s))
+  -- from empty slots, the nodes in order; past them the slots are as they were
+  pub all-worlds : (local : ℕ → Matrix) (m : ℕ) (rest : List Float) → m ≡ node_count s * 16
+      → foldl (placed_in local codes.to) (replicate m zero32 ++ rest) (take placed ids.to)
+      ≡ slots_of (worlds_from local (replicate (node_count s) none) (order s)) ++ rest
+  all-worlds local m rest e =
+      (λ j. foldl (placed_in local codes.to) (empty j ++ rest) (nodes-in-order j))
+      ∙ placed-slots local codes.to rest (order s) (start s) (replicate (node_count s) none) (rows-zero (node_count s))
       (length-replicate (node_count s) none ∙ sym (length-replicate (node_count s) unplaced))
       (in-turn s) (none-placed (node_count s)) told
-      ∙ append-nil _
     where
-      empty : replicate m zero32 ≡ slots_of (replicate (node_count s) none) ++ []
-      empty = ap (λ (k : ℕ). replicate k zero32) e ∙ sym (no-worlds (node_count s)) ∙ sym (append-nil _)
+      empty : replicate m zero32 ≡ slots_of (replicate (node_count s) none)
+      empty = ap (λ (k : ℕ). replicate k zero32) e ∙ sym (no-worlds (node_count s))

@@ -3,17 +3,17 @@ use mathlib.Core.Path.{◌≡◌, refl, sym, ap, ◌∙◌}
 use mathlib.Core.Bool.{Bool, true, false, not, ◌&&◌, true≢false, false≢true}
 use mathlib.Core.List.{List, [], ◌∷◌, ◌++◌, map}
 use mathlib.Core.Option.{Option, none, some}
-use Prim.Native.Nat.{ℕ, zero, suc, ◌+◌, ◌*◌, ◌≤◌, ◌<◌}
+use Prim.Native.Nat.{ℕ, suc, ◌+◌, ◌*◌, ◌≤◌, ◌<◌}
 use native.Mathlib.Nat.{suc-mul, mul-le-mul_right}
 use native.Mathlib.Decide.{dec_lt}
 use native.Mathlib.Omega.{arith}
 use borrow.Author.Tests.{lt-ltb, le-ltb, le-leb, eqb-true, eqb-false}
-use lib.Dec.{ltb, eqb}
+use lib.Dec.{eqb}
 use lib.Ieee.{Float}
 use lib.ListN.{length, get_or, set, replicate, length-set, length-append, length-map, length-replicate, get_or-append, get_or-eq_default}
 use lib.Seq.{get_or-set_same, get_or-set_other}
 use Rattle.float.specs.F32.{zero32}
-use Rattle.model.specs.Lists.{pick, foldl, joined, part, is_some, or_else}
+use Rattle.model.specs.Lists.{pick, foldl, part, is_some, or_else}
 use Rattle.model.specs.Matrix.{Matrix, mul}
 use Rattle.model.specs.Scene.{Scene, node_count}
 use Rattle.model.specs.Placing.{Place, unplaced, root, below, Entry, is_free, order, places_from, places, start}
@@ -22,7 +22,7 @@ use Rattle.model.specs.World.{local_at, above, place_one, worlds_from, worlds, w
 use Rattle.model.proofs.RowLaws.{Rows, flat-length, row-of-flat, product-length}
 use Rattle.model.proofs.Walking.{InTurn, in-turn, not_free}
 use Rattle.model.proofs.Paths.{free-in-range, replicate-at}
-use Rattle.scene.specs.Slots.{matrix_in, fits_at}
+use Rattle.scene.specs.Slots.{matrix_in}
 use Rattle.tables.specs.Tags.{is_marked}
 use Rattle.tables.specs.Codes.{code_of, codes_of}
 use Rattle.worlds.specs.Slots.{slot_of, slots_of, world_in}

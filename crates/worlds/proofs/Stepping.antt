@@ -1,5 +1,5 @@
 -- Worlds written slot by slot in the order of placing are the model's worlds. Assumes nothing.
-use mathlib.Core.Path.{◌≡◌, refl, sym, ap, ◌∙◌, subst}
+use mathlib.Core.Path.{◌≡◌, refl, sym, ap, ◌∙◌}
 use mathlib.Core.Bool.{Bool, true, false, true≢false}
 use mathlib.Core.List.{List, [], ◌∷◌, ◌++◌, map}
 use mathlib.Core.Option.{Option, none, some}
@@ -7,12 +7,12 @@ use Prim.Native.Nat.{ℕ, zero, suc, ◌+◌, ◌-◌, ◌*◌, ◌≤◌, ◌<�
 use native.Mathlib.Nat.{mul-le-mul_right, suc-mul}
 use native.Mathlib.Omega.{arith}
 use borrow.Author.Tests.{le-ltb, le-leb, eqb-true, eqb-false}
-use lib.Dec.{ltb, eqb}
+use lib.Dec.{eqb}
 use lib.Ieee.{Float}
 use lib.ListN.{length, get_or, set, replicate, length-set, length-append, length-map}
 use lib.Seq.{paste, get_or-set_same, get_or-set_other}
 use Rattle.float.specs.F32.{zero32}
-use Rattle.model.specs.Lists.{pick, foldl, joined, is_some, or_else, part}
+use Rattle.model.specs.Lists.{pick, foldl, is_some, or_else, part}
 use Rattle.model.specs.Matrix.{Matrix, identity, mul}
 use Rattle.model.specs.Placing.{Place, unplaced, root, below, Entry, is_free, free}
 use Rattle.model.specs.World.{above, place_one, worlds_from}

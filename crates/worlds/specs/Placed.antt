@@ -76,5 +76,6 @@ pub record NodesPlaced (l : Lent) (marks : List ℕ) (slots : List Float) (walk_
 abbrev pub Placed : Lent → List ℕ → List Float → List ℕ → List ℕ → List ℕ → List ℕ → List Float → List Float → Answer
     → Type 0
 Placed l marks slots lent_walk left_walk lent_codes left_codes lent_floats left_floats a =
-    NodesPlaced l marks slots (record { from = lent_walk; to = left_walk }) (record { from = lent_codes; to = left_codes })
+    NodesPlaced l marks slots (record { from = lent_walk; to = left_walk })
+    (record { from = lent_codes; to = left_codes })
     (record { from = lent_floats; to = left_floats }) a

@@ -1,16 +1,15 @@
 // The world matrix of every placed node: `posed_node_transforms` of pose.rs, from a pose that is given in lent slots.
 #![tactic(auto)]
 
-ghost use Rattle.std.specs.Prelude.{◌≡◌, ◌+◌, ◌*◌, ◌≤◌, length};
-ghost use Rattle.borrowed.specs.Slices.{change};
-ghost use Rattle.model.specs.Limits.{node_limit};
-ghost use Rattle.checks.specs.Drawn.{scene_lent};
-ghost use Rattle.placing.specs.Walk.{listing_in, entries_of};
-ghost use Rattle.worlds.specs.Posed.{local_in};
-ghost use Rattle.worlds.specs.Placed.{Run, answer_of, NodesPlaced};
+ghost use Rattle.std.specs.Prelude.{◌≡◌};
+ghost use Rattle.tables.specs.Decoded.{lent_of};
+ghost use Rattle.placing.specs.Walk.{listing_in};
+ghost use Rattle.worlds.specs.Posed.{local_of};
+ghost use Rattle.worlds.specs.Placed.{scratch_of, Run, answer_of, NodesPlaced};
+ghost use Rattle.worlds.specs.Rooms.{RoomFor, scratch_in, SameRoom, walk_of, places_of, worlds_of};
 
 use refusals::{NODE_LIMIT, Refusal};
-use tables::{Graph, Header};
+use tables::Lent;
 
 mod numbers;
 mod posing;
@@ -40,69 +39,69 @@ impl From<Result<usize, Refusal>> for Answer {
     }
 }
 
+// The room that a placing is lent: what waits, the code of each node's place, and its world. The pose slots stand
+// beside it, since C lends them to a placing to be read only.
+#[derive(Drop)]
+pub struct Room<'a> {
+    pub walk: &'a mut [u32],
+    pub places: &'a mut [u32],
+    pub worlds: &'a mut [f32],
+}
+
+// How much room there is: for so many entries, poses and worlds.
+#[derive(Clone, Copy)]
+pub struct Space {
+    pub walk: usize,
+    pub poses: usize,
+    pub worlds: usize,
+}
+
+// How much room is lent: two words an entry, four words and ten floats a pose, a word and sixteen floats a world.
+pub fn space_in(marks: &[u32], slots: &[f32], room: &Room<'_>) -> Space
+    ensures { scratch_in result ≡ scratch_of room.now.walk.now marks.now slots.now room.now.places.now
+        room.now.worlds.now }
+{
+    Space {
+        walk: room.walk.len() / 2,
+        poses: (marks.len() / 4).min(slots.len() / 10),
+        worlds: room.places.len().min(room.worlds.len() / 16),
+    }
+}
+
 // Places the nodes, and writes the world of each: a stage, for tables and room that have been checked.
-pub fn place_all(
-    words: &[u32],
-    floats: &[f32],
-    graph: Graph,
-    marks: &[u32],
-    slots: &[f32],
-    walk: &mut [u32],
-    places: &mut [u32],
-    worlds: &mut [f32],
-) -> usize
-    requires count_le_node_limit { (graph.nodes.count ≤ node_limit) × (graph.nodes.count ≤ length places.old) }
-    requires graph_in_bounds { 2 * entries_of (listing_in words.now graph) ≤ length walk.old }
-    requires count_in_bounds { graph.nodes.count * 16 ≤ length worlds.old }
-    ensures { Run (listing_in words.now graph)
-        (local_in words.now floats.now graph.nodes marks.now slots.now)
-        (change walk) (change places) (change worlds) result }
+pub fn place_all(lent: Lent, marks: &[u32], slots: &[f32], room: &mut Room<'_>) -> usize
+    requires { RoomFor lent.words.now lent.header.graph room.old }
+    ensures same_room { SameRoom room.old room.new }
+    ensures run { Run (listing_in lent.entry.words.now lent.entry.header.graph)
+        (local_of (lent_of lent.entry) marks.now slots.now)
+        (walk_of room.old room.new) (places_of room.old room.new) (worlds_of room.old room.new) result }
 {
     let mut order = [0u32; NODE_LIMIT];
-    let nodes = graph.nodes;
-    let m = nodes.count * 16;
-    let run = placing::place(words, graph, walk, places, &mut order);
-    let n = run.placed;
-    posing::write_worlds(
-        words,
-        floats,
-        nodes,
-        marks,
-        slots,
-        places,
-        &order[..n],
-        &mut worlds[..m],
+    let run = placing::place(
+        lent.words,
+        lent.header.graph,
+        room.walk,
+        room.places,
+        &mut order,
     );
+    let n = run.placed;
+    posing::write_worlds(lent, marks, slots, &order[..n], room);
     run.taken
 }
 
 // Where every node stands, in the given pose: the code of its place in `places`, and its world in `worlds`. Answers how
 // many entries were taken.
 pub fn posed_node_transforms(
-    words: &[u32],
-    floats: &[f32],
-    node_weights: &[f32],
-    mesh_weights: &[f32],
-    h: Header,
+    lent: Lent,
     marks: &[u32],
     slots: &[f32],
-    walk: &mut [u32],
-    places: &mut [u32],
-    worlds: &mut [f32],
+    room: &mut Room<'_>,
 ) -> Result<usize, Refusal>
-    ensures { NodesPlaced (scene_lent words floats node_weights mesh_weights h) marks.now
-        slots.now (change walk) (change places) (change worlds) (answer_of result) }
+    ensures same_room { SameRoom room.old room.new }
+    ensures placed { NodesPlaced (lent_of lent.entry) marks.now slots.now (walk_of room.old room.new)
+        (places_of room.old room.new) (worlds_of room.old room.new) (answer_of result) }
 {
-    numbers::check_place(
-        words,
-        floats,
-        node_weights,
-        mesh_weights,
-        h,
-        walk.len() / 2,
-        wire::least(marks.len() / 4, slots.len() / 10),
-        wire::least(places.len(), worlds.len() / 16),
-    )?;
-    let taken = place_all(words, floats, h.graph, marks, slots, walk, places, worlds);
+    numbers::check_place(lent, space_in(marks, slots, room))?;
+    let taken = place_all(lent, marks, slots, room);
     Ok(taken)
 }

@@ -1,11 +1,12 @@
 ghost use Rattle.std.specs.Prelude.{◌≡◌, ◌+◌, ltb};
 ghost use Rattle.refusals.specs.Drawn.{number_drawn};
-ghost use Rattle.checks.specs.Drawn.{scene_lent};
-ghost use Rattle.worlds.specs.Rooms.{short_for, short_in};
+ghost use Rattle.tables.specs.Decoded.{lent_of};
+ghost use Rattle.worlds.specs.Rooms.{short_for, short_in, scratch_in};
 ghost use Rattle.worlds.specs.Placed.{place_number_for};
 
+use crate::Space;
 use refusals::Refusal;
-use tables::{Graph, Header};
+use tables::{Graph, Lent};
 
 // Whether there is room for fewer entries than roots and children.
 fn walk_is_short(roots: usize, children: usize, walk: usize) -> bool
@@ -18,48 +19,32 @@ fn walk_is_short(roots: usize, children: usize, walk: usize) -> bool
 }
 
 // Whether the walk room or the slots are too few for a listing with so many child entries.
-pub fn is_short_for(children: usize, graph: Graph, walk: usize, poses: usize, worlds: usize) -> bool
-    ensures { result ≡ short_for children graph walk poses worlds }
+pub fn is_short_for(children: usize, graph: Graph, space: Space) -> bool
+    ensures { result ≡ short_for children graph space.walk space.poses space.worlds }
 {
     let n = graph.nodes.count;
-    if walk_is_short(graph.roots.count, children, walk) {
+    if walk_is_short(graph.roots.count, children, space.walk) {
         return true;
     }
-    if poses < n {
+    if space.poses < n {
         return true;
     }
-    worlds < n
+    space.worlds < n
 }
 
 // Whether they are too few for the listing of the tables.
-pub fn is_short(words: &[u32], graph: Graph, walk: usize, poses: usize, worlds: usize) -> bool
-    ensures { result ≡ short_in words.now graph walk poses worlds }
+pub fn is_short(words: &[u32], graph: Graph, space: Space) -> bool
+    ensures { result ≡ short_in words.now graph space.walk space.poses space.worlds }
 {
-    is_short_for(
-        checks::child_entries(words, graph.nodes),
-        graph,
-        walk,
-        poses,
-        worlds,
-    )
+    is_short_for(checks::child_entries(words, graph.nodes), graph, space)
 }
 
-// What a placing draws, from a given pose, with room for so many entries, poses and worlds.
-pub(crate) fn check_place(
-    words: &[u32],
-    floats: &[f32],
-    node_weights: &[f32],
-    mesh_weights: &[f32],
-    h: Header,
-    walk: usize,
-    poses: usize,
-    worlds: usize,
-) -> Result<(), Refusal>
-    ensures { number_drawn result ≡ place_number_for (scene_lent words floats node_weights mesh_weights h)
-        (record { walk_room = walk; pose_slots = poses; world_slots = worlds }) }
+// What a placing draws, from a given pose, with so much room.
+pub(crate) fn check_place(lent: Lent, space: Space) -> Result<(), Refusal>
+    ensures { number_drawn result ≡ place_number_for (lent_of lent.entry) (scratch_in space) }
 {
-    checks::check_tables(words, floats, node_weights, mesh_weights, h)?;
-    if is_short(words, h.graph, walk, poses, worlds) {
+    checks::check_tables(lent)?;
+    if is_short(lent.words, lent.header.graph, space) {
         return Err(Refusal::ShortScratch);
     }
     Ok(())

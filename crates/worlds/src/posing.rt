@@ -1,72 +1,70 @@
-ghost use Rattle.std.specs.Prelude.{◌≡◌, length, get_or, replicate};
-ghost use Rattle.float.specs.F32.{zero32};
-ghost use Rattle.worlds.specs.Posed.{local_in, placed_in_order};
+ghost use Rattle.std.specs.Prelude.{◌≡◌, ◌*◌, ◌≤◌, length, get_or};
+ghost use Rattle.tables.specs.Decoded.{lent_of};
+ghost use Rattle.worlds.specs.Posed.{local_of, placed_in_order, unplaced_in};
+ghost use Rattle.worlds.specs.Rooms.{SameRoom, WorldsAlone};
 
-use crate::slots::{place_one, wide};
+use crate::Room;
+use crate::slots::place_one;
 use scene::Mat4;
-use tracks::Part;
+use tables::{Graph, Lent};
 
 // The local matrix of node i in a pose.
-fn local_matrix(
-    words: &[u32],
-    floats: &[f32],
-    nodes: Part,
-    marks: &[u32],
-    slots: &[f32],
-    i: usize,
-) -> Mat4
-    ensures { result.m ≡ local_in words.now floats.now nodes marks.now
-        slots.now i }
+fn local_matrix(lent: Lent, marks: &[u32], slots: &[f32], i: usize) -> Mat4
+    ensures { result.m ≡ local_of (lent_of lent.entry) marks.now slots.now i }
 {
-    let base = tables::base_of(floats, tables::node_row(words, nodes, i));
+    let nodes = lent.header.graph.nodes;
+    let base = tables::base_of(lent.floats, tables::node_row(lent.words, nodes, i));
     scene::to_matrix(pose_slots::local_transform(pose_slots::pose_at(marks, slots, i), base))
 }
 
-fn word(words: &[u32], i: usize) -> u32
-    ensures { result ≡ get_or words.now i 0 }
+// The code of the place of node i; 0 past the slots.
+fn code_at(room: &Room<'_>, i: usize) -> u32
+    ensures { result ≡ get_or room.now.places.now i 0 }
 {
-    if i < words.len() {
-        return words[i];
+    if i < room.places.len() {
+        return room.places[i];
     }
     0
 }
 
 // Writes the worlds of the nodes of `order`, one after the other; `places` has the code of each node's place.
-pub(crate) fn place_worlds(
-    words: &[u32],
-    floats: &[f32],
-    nodes: Part,
-    marks: &[u32],
-    slots: &[f32],
-    places: &[u32],
-    order: &[u32],
-    worlds: &mut [f32],
-)
-    ensures { worlds.new ≡ placed_in_order words floats nodes marks slots places order
-        worlds.old }
+fn place_worlds(lent: Lent, marks: &[u32], slots: &[f32], order: &[u32], room: &mut Room<'_>)
+    ensures same_room { SameRoom room.old room.new }
+    ensures worlds_alone { WorldsAlone room.old room.new (placed_in_order (lent_of lent.entry) marks.now
+        slots.now room.old.places.now order.now room.old.worlds.now) }
 {
     for k in 0..order.len() {
         let id = order[k];
-        let i = wide(id);
-        let local = local_matrix(words, floats, nodes, marks, slots, i);
-        place_one(worlds, id, word(places, i), local);
+        let i = id as usize;
+        let local = local_matrix(lent, marks, slots, i);
+        let code = code_at(room, i);
+        place_one(room.worlds, id, code, local);
     }
+}
+
+// Takes away the worlds of all nodes.
+fn clear(worlds: &mut [f32], graph: Graph)
+    requires { graph.nodes.count * 16 ≤ length worlds.old }
+    ensures { worlds.new ≡ unplaced_in graph worlds.old }
+{
+    let m = graph.nodes.count * 16;
+    worlds[..m].fill(0.0);
 }
 
 // Writes the worlds of the nodes of `order`; all others have none.
 pub(crate) fn write_worlds(
-    words: &[u32],
-    floats: &[f32],
-    nodes: Part,
+    lent: Lent,
     marks: &[u32],
     slots: &[f32],
-    places: &[u32],
     order: &[u32],
-    worlds: &mut [f32],
+    room: &mut Room<'_>,
 )
-    ensures { worlds.new ≡ placed_in_order words floats nodes marks slots places order
-        (replicate (length worlds.old) zero32) }
+    requires { lent.header.graph.nodes.count * 16 ≤ length room.old.worlds.now }
+    ensures same_room { SameRoom room.old room.new }
+    ensures worlds_alone { WorldsAlone room.old room.new (placed_in_order (lent_of lent.entry) marks.now
+        slots.now room.old.places.now order.now
+        (unplaced_in lent.entry.header.graph room.old.worlds.now)) }
 {
-    worlds.fill(0.0);
-    place_worlds(words, floats, nodes, marks, slots, places, order, worlds);
+    clear(room.worlds, lent.header.graph);
+    place_worlds(lent, marks, slots, order, room);
 }

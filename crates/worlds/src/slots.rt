@@ -1,4 +1,4 @@
-ghost use Rattle.std.specs.Prelude.{◌≡◌, ◌*◌, ◌<◌};
+ghost use Rattle.std.specs.Prelude.{◌≡◌, ◌*◌};
 ghost use Rattle.std.proofs.Math.Seq.{paste};
 ghost use Rattle.model.specs.Lists.{pick};
 ghost use Rattle.model.specs.Matrix.{mul};
@@ -6,12 +6,6 @@ ghost use Rattle.scene.specs.Slots.{fits_at};
 ghost use Rattle.worlds.specs.Slots.{above_in};
 
 use scene::Mat4;
-
-pub(crate) fn wide(x: u32) -> usize
-    ensures { (result ≡ x) × (result < 4294967296) }
-{
-    x as usize
-}
 
 // The world of a node, by the code of its place: the world of what it is placed under times its local matrix. A root's
 // product with the identity is done too.
@@ -21,7 +15,7 @@ fn world_at(worlds: &[f32], code: u32, local: Mat4) -> Mat4
     if code < 3 {
         return scene::mat4_mul(scene::identity(), local);
     }
-    scene::mat4_mul(scene::load(worlds, wide(code - 3) * 16), local)
+    scene::mat4_mul(scene::load(worlds, (code - 3) as usize * 16), local)
 }
 
 // Writes the world of node i, with the code of its place and its local matrix.
@@ -31,5 +25,5 @@ pub(crate) fn place_one(worlds: &mut [f32], i: u32, code: u32, local: Mat4)
         worlds.old }
 {
     let world = world_at(worlds, code, local);
-    scene::store(worlds, wide(i) * 16, world);
+    scene::store(worlds, i as usize * 16, world);
 }

@@ -1,99 +1,94 @@
-use mathlib.Core.Path.{◌≡◌, sym, subst}
-use Prim.Native.Nat.{ℕ}
-use lib.Ieee.{Float}
-use Rattle.bake.specs.declared.Answer.{Answer}
-use borrow.Author.Rules.{rules}
-use lib.Seq.{length-take-le}
-use Rattle.tables.specs.Decoded.{Lent}
-use Rattle.checks.specs.Drawn.{lent_as}
-use Rattle.bake.specs.Baked.{Room, Change, Baked}
-use Rattle.byte_baking.specs.Output.{ByteOutput}
-use Rattle.byte_baking.proofs.BakedLaws.{position-fits, normal-fits, tangent-fits, written_out}
-use Rattle.byte_baking.proofs.bake_over.Lts
-use Rattle.byte_baking.proofs.bake_over.Reads
-use Rattle.byte_baking.proofs.bake_over.Tie
+use Rattle.refusals.proofs.Told.{passed-on}
+use Rattle.tables.specs.Decoded.{lent_of}
+use Rattle.bake_stages.specs.Scratch.{slices_in}
+use Rattle.bake.specs.Baked.{Room}
+use Rattle.byte_baking.specs.Output.{output_of}
+use Rattle.byte_baking.proofs.BakedLaws.{position-fits, normal-fits, tangent-fits, written_out, nothing-written}
 use Rattle.byte_baking.proofs.bake_over.Goals as goal
 
-abbrev Start : Type 0
-Start = Lts.Start Tie.the-claims Reads.Pre Reads.Post
-
-abbrev lent_of : Start → Lent
-lent_of s = lent_as s.args.words.now s.args.floats.now s.args.node_weights.now s.args.mesh_weights.now s.args.h
-
-abbrev room_of : Start → Room
-room_of s = record {
-  scratch = record {
-    marks = s.args.marks.now;
-    slots = s.args.slots.now;
-    walk = s.args.walk.now;
-    places = s.args.places.now;
-    worlds = s.args.worlds.now;
-  };
-  output = record {
-    positions = s.args.position_floats.now;
-    normals = s.args.normal_floats.now;
-    tangents = s.args.tangent_floats.now;
-  };
-}
-
-abbrev bytes_of : Start → ByteOutput
-bytes_of s = record { positions = s.args.positions.now; normals = s.args.normals.now; tangents = s.args.tangents.now }
-
--- said of the record of an answer
-told-as : {l : Lent} {i : ℕ} {time : Float} {c : Change} (a b : Answer) → a ≡ b
-    → Baked l i time c b → Baked l i time c a
-told-as {l} {i} {time} {c} a b e h = subst (λ (x : Answer). Baked l i time c x) (sym e) h
-
-pub slice_bounds-world_mesh_at-end-2 : goal.slice_bounds-world_mesh_at-end-2
-slice_bounds-world_mesh_at-end-2 c = sym (length-take-le _ _ (search rules))
-
-pub slice_bounds-world_mesh_at-end-4 : goal.slice_bounds-world_mesh_at-end-4
-slice_bounds-world_mesh_at-end-4 c = sym (length-take-le _ _ (search rules))
-
-pub slice_bounds-world_mesh_at-end-6 : goal.slice_bounds-world_mesh_at-end-6
-slice_bounds-world_mesh_at-end-6 c = sym (length-take-le _ _ (search rules))
+pub returns-in_err-put-clause-baked : goal.returns-in_err-put-clause-baked
+returns-in_err-put-clause-baked c =
+    let a = c.args in
+    let r : Room = record {
+      scratch = slices_in a.marks.now a.slots.now a.room.now;
+      output = record { positions = a.positions.now; normals = a.normals.now; tangents = a.tangents.now };
+    } in
+    let o = output_of a.bytes.now in
+    rw (passed-on _ c.in_err-put.field-0.0 c.from_residual.ensures.1)
+    (written_out (lent_of a.lent) a.node a.time r o _ _ _
+    (record { positions = c.min-p.ensures; normals = c.min-n.ensures; tangents = c.min-t.ensures }) _ _ c.in_err-put.ensures.baked
+    (record {
+      positions = c.bake_floats.auto.positions;
+      normals = c.bake_floats.auto.normals;
+      tangents = c.bake_floats.auto.tangents;
+    }) o
+    (λ j. record {
+      positions = nothing-written o.positions j;
+      normals = nothing-written o.normals j;
+      tangents = nothing-written o.tangents j;
+    }))
 
 pub write_start-requires : goal.write_start-requires
 write_start-requires c =
-    let s : Start = record { lifetimes = c.lifetimes; ranges = c.ranges; args = c.args; well_formed = c.well_formed; requires = c.requires } in
-    position-fits (lent_of s) s.args.node s.args.time (room_of s) (bytes_of s) _ _ _
-    (record { positions = c.least-p.ensures; normals = c.least-n.ensures; tangents = c.least-t.ensures }) _ _ (told-as _ _ c.from-a.ensures c.world_mesh_at.ensures)
+    let a = c.args in
+    let r : Room = record {
+      scratch = slices_in a.marks.now a.slots.now a.room.now;
+      output = record { positions = a.positions.now; normals = a.normals.now; tangents = a.tangents.now };
+    } in
+    let o = output_of a.bytes.now in
+    position-fits (lent_of a.lent) a.node a.time r o _ _ _
+    (record { positions = c.min-p.ensures; normals = c.min-n.ensures; tangents = c.min-t.ensures }) _ _ c.in_ok-put.ensures.baked
     (record {
-      positions = c.world_mesh_at.auto.positions;
-      normals = c.world_mesh_at.auto.normals;
-      tangents = c.world_mesh_at.auto.tangents;
+      positions = c.bake_floats.auto.positions;
+      normals = c.bake_floats.auto.normals;
+      tangents = c.bake_floats.auto.tangents;
     })
 
 pub write_start-requires-2 : goal.write_start-requires-2
 write_start-requires-2 c =
-    let s : Start = record { lifetimes = c.lifetimes; ranges = c.ranges; args = c.args; well_formed = c.well_formed; requires = c.requires } in
-    normal-fits (lent_of s) s.args.node s.args.time (room_of s) (bytes_of s) _ _ _
-    (record { positions = c.least-p.ensures; normals = c.least-n.ensures; tangents = c.least-t.ensures }) _ _ (told-as _ _ c.from-a.ensures c.world_mesh_at.ensures)
+    let a = c.args in
+    let r : Room = record {
+      scratch = slices_in a.marks.now a.slots.now a.room.now;
+      output = record { positions = a.positions.now; normals = a.normals.now; tangents = a.tangents.now };
+    } in
+    let o = output_of a.bytes.now in
+    normal-fits (lent_of a.lent) a.node a.time r o _ _ _
+    (record { positions = c.min-p.ensures; normals = c.min-n.ensures; tangents = c.min-t.ensures }) _ _ c.in_ok-put.ensures.baked
     (record {
-      positions = c.world_mesh_at.auto.positions;
-      normals = c.world_mesh_at.auto.normals;
-      tangents = c.world_mesh_at.auto.tangents;
+      positions = c.bake_floats.auto.positions;
+      normals = c.bake_floats.auto.normals;
+      tangents = c.bake_floats.auto.tangents;
     })
 
 pub write_start-requires-3 : goal.write_start-requires-3
 write_start-requires-3 c =
-    let s : Start = record { lifetimes = c.lifetimes; ranges = c.ranges; args = c.args; well_formed = c.well_formed; requires = c.requires } in
-    tangent-fits (lent_of s) s.args.node s.args.time (room_of s) (bytes_of s) _ _ _
-    (record { positions = c.least-p.ensures; normals = c.least-n.ensures; tangents = c.least-t.ensures }) _ _ (told-as _ _ c.from-a.ensures c.world_mesh_at.ensures)
+    let a = c.args in
+    let r : Room = record {
+      scratch = slices_in a.marks.now a.slots.now a.room.now;
+      output = record { positions = a.positions.now; normals = a.normals.now; tangents = a.tangents.now };
+    } in
+    let o = output_of a.bytes.now in
+    tangent-fits (lent_of a.lent) a.node a.time r o _ _ _
+    (record { positions = c.min-p.ensures; normals = c.min-n.ensures; tangents = c.min-t.ensures }) _ _ c.in_ok-put.ensures.baked
     (record {
-      positions = c.world_mesh_at.auto.positions;
-      normals = c.world_mesh_at.auto.normals;
-      tangents = c.world_mesh_at.auto.tangents;
+      positions = c.bake_floats.auto.positions;
+      normals = c.bake_floats.auto.normals;
+      tangents = c.bake_floats.auto.tangents;
     })
 
-pub returns : goal.returns
-returns c =
-    let s : Start = record { lifetimes = c.lifetimes; ranges = c.ranges; args = c.args; well_formed = c.well_formed; requires = c.requires } in
-    written_out (lent_of s) s.args.node s.args.time (room_of s) (bytes_of s) _ _ _
-    (record { positions = c.least-p.ensures; normals = c.least-n.ensures; tangents = c.least-t.ensures }) _ _ (told-as _ _ c.from-a.ensures c.world_mesh_at.ensures)
+pub returns-clause-baked : goal.returns-clause-baked
+returns-clause-baked c =
+    let a = c.args in
+    let r : Room = record {
+      scratch = slices_in a.marks.now a.slots.now a.room.now;
+      output = record { positions = a.positions.now; normals = a.normals.now; tangents = a.tangents.now };
+    } in
+    let o = output_of a.bytes.now in
+    written_out (lent_of a.lent) a.node a.time r o _ _ _
+    (record { positions = c.min-p.ensures; normals = c.min-n.ensures; tangents = c.min-t.ensures }) _ _ c.in_ok-put.ensures.baked
     (record {
-      positions = c.world_mesh_at.auto.positions;
-      normals = c.world_mesh_at.auto.normals;
-      tangents = c.world_mesh_at.auto.tangents;
+      positions = c.bake_floats.auto.positions;
+      normals = c.bake_floats.auto.normals;
+      tangents = c.bake_floats.auto.tangents;
     }) _
     (λ j. record { positions = c.write_start.ensures j; normals = c.write_start-2.ensures j; tangents = c.write_start-3.ensures j })

@@ -3,8 +3,8 @@ use lib.Seq.{length-take-le}
 use Rattle.byte_baking.proofs.OutputLaws.{start-written}
 use Rattle.byte_baking.proofs.write_start.Goals as goal
 
-pub slice_bounds-write_floats-end : goal.slice_bounds-write_floats-end
-slice_bounds-write_floats-end c = sym (length-take-le _ _ c.requires.there)
+pub slice_bounds-write-end : goal.slice_bounds-write-end
+slice_bounds-write-end c = sym (length-take-le _ _ c.requires.there)
 
 pub returns : goal.returns
-returns c = start-written _ _ _ _ _ c.requires c.write_floats.ensures
+returns c = start-written _ _ _ _ _ c.requires c.write.ensures

@@ -1,4 +1,4 @@
-use mathlib.Core.Path.{sym, ◌∙◌, subst}
+use mathlib.Core.Path.{sym, subst}
 use Prim.Native.Nat.{ℕ, ◌≤◌}
 use lib.Seq.{length-take-le}
 use Rattle.refusals.proofs.Told.{turned-down}

@@ -3,4 +3,4 @@ use Rattle.lent_bytes.proofs.decode_at.Goals as goal
 
 pub returns : goal.returns
 returns c =
-    put-read _ _ c.args.at c.args.room.now _ _ c.requires c.read_floats.ensures
+    put-read _ _ c.args.at c.args.room.now _ _ c.requires c.read.ensures

@@ -1,15 +1,8 @@
 use mathlib.Core.Path.{subst}
-use Prim.Native.Nat.{ℕ, ◌≤◌, ◌<◌}
+use Prim.Native.Nat.{ℕ, ◌≤◌}
 use lib.ListN.{length}
-use Rattle.lent_bytes.specs.Bytes.{floats_of}
-use Rattle.lent_bytes.proofs.Decoding.{kept, three-put}
+use Rattle.lent_bytes.proofs.Decoding.{three-put}
 use Rattle.lent_bytes.proofs.decode_floats.Goals as goal
-
-pub returns-then-room-count_of : goal.returns-then-room-count_of
-returns-then-room-count_of c =
-    let a = c.args in
-    kept _ (floats_of a.a.now a.b.now a.c.now) a.room.now
-    (subst (λ (n : ℕ). length a.room.now < n) c.count_of.ensures c.if-room-count_of.true)
 
 pub returns : goal.returns
 returns c =

@@ -1,6 +1,6 @@
 -- The first k targets are added.
-use mathlib.Core.Path.{◌≡◌, refl, sym, ap, ◌∙◌, subst}
-use Prim.Native.Nat.{ℕ, ◌+◌, ◌-◌}
+use mathlib.Core.Path.{◌≡◌, sym, ap, ◌∙◌, subst}
+use Prim.Native.Nat.{ℕ, ◌+◌}
 use native.Mathlib.Omega.{arith}
 use borrow.Author.Rules.{rules}
 use lib.Ieee.{nan}
@@ -19,16 +19,16 @@ use Rattle.mesh.proofs.morphed.Goals as goal
 
 pub loop-k-init : goal.loop-k-init
 unfolding with_targets
-loop-k-init c = let a = c.args in (omega arith, refl, refl, refl, morphed-start a.positions.now a.normals.now a.tangents.now)
+loop-k-init c = let a = c.args in (omega arith, search rules, morphed-start a.out.now.positions.now a.out.now.normals.now a.out.now.tangents.now)
 
 pub loop-k-preserved : goal.loop-k-preserved
 loop-k-preserved c =
     let a = c.args in
     let l = c.loop-k in
-    let m = c.least-n.ensures in
-    let lent = attributes_in a.positions.now a.normals.now a.tangents.now in
-    let ts = targets_in a.words.now a.floats.now a.h a.targets in
-    let t : ℕ → Target = λ k. target_of (lent_in a.words.now a.floats.now a.h) (target_row a.words.now a.h.meshes.targets (a.targets.at + k)) in
+    let m = c.min-n.ensures in
+    let lent = attributes_in a.out.now.positions.now a.out.now.normals.now a.out.now.tangents.now in
+    let ts = targets_in a.lent.words.now a.lent.floats.now a.lent.header a.targets in
+    let t : ℕ → Target = λ k. target_of (lent_in a.lent.words.now a.lent.floats.now a.lent.header) (target_row a.lent.words.now a.lent.header.meshes.targets (a.targets.at + k)) in
     let w = get_or a.weights.now l.k nan in
     let n : length ts ≡ a.targets.count = length-tabulate a.targets.count t in
     let p = with_targets (take l.k ts) (take l.k a.weights.now) lent in
@@ -36,21 +36,19 @@ loop-k-preserved c =
     = ap (λ (x : Target). with_target p x w) (sym (get_d_tabulate a.targets.count t l.k (t 0) (omega arith))) ∙ sym (more-targets (t 0) nan ts a.weights.now l.k lent (omega arith) (omega arith)) in (
       omega arith,
       search rules,
-      search rules,
-      search rules,
-      subst (λ (q : Primitive). Morphed q a.positions.now c.add_numbered.new.positions a.normals.now c.add_numbered.new.normals a.tangents.now c.add_numbered.new.tangents) e
-          (morphed-more p a.positions.now l.positions c.add_numbered.new.positions a.normals.now l.normals c.add_numbered.new.normals a.tangents.now l.tangents c.add_numbered.new.tangents (t l.k) w
-          (lent_rows (lent_in a.words.now a.floats.now a.h) (target_row a.words.now a.h.meshes.targets (a.targets.at + l.k))) l.invariant.4 c.add_numbered.ensures),
+      subst (λ (q : Primitive). Morphed q a.out.now.positions.now c.add_numbered.new.out.positions.now a.out.now.normals.now c.add_numbered.new.out.normals.now a.out.now.tangents.now c.add_numbered.new.out.tangents.now) e
+          (morphed-more p a.out.now.positions.now l.out.positions.now c.add_numbered.new.out.positions.now a.out.now.normals.now l.out.normals.now c.add_numbered.new.out.normals.now a.out.now.tangents.now l.out.tangents.now c.add_numbered.new.out.tangents.now (t l.k) w
+          (lent_rows (lent_in a.lent.words.now a.lent.floats.now a.lent.header) (target_row a.lent.words.now a.lent.header.meshes.targets (a.targets.at + l.k))) l.invariant.2 c.add_numbered.ensures.moved),
     )
 
-pub returns : goal.returns
-returns c =
+pub returns-clause-moved : goal.returns-clause-moved
+returns-clause-moved c =
     let a = c.args in
     let l = c.loop-k in
-    let m = c.least-n.ensures in
-    let lent = attributes_in a.positions.now a.normals.now a.tangents.now in
-    let ts = targets_in a.words.now a.floats.now a.h a.targets in
+    let m = c.min-n.ensures in
+    let lent = attributes_in a.out.now.positions.now a.out.now.normals.now a.out.now.tangents.now in
+    let ts = targets_in a.lent.words.now a.lent.floats.now a.lent.header a.targets in
     let n : length ts ≡ a.targets.count = length-tabulate a.targets.count _ in
-    subst (λ (q : Primitive). Reshaped (shape_of q) a.positions.now l.positions a.normals.now l.normals a.tangents.now l.tangents)
+    subst (λ (q : Primitive). Reshaped (shape_of q) a.out.now.positions.now l.out.positions.now a.out.now.normals.now l.out.normals.now a.out.now.tangents.now l.out.tangents.now)
     (all-targets ts a.weights.now l.k lent (omega arith))
-    (morphed-end _ a.positions.now l.positions a.normals.now l.normals a.tangents.now l.tangents l.invariant.4)
+    (morphed-end _ a.out.now.positions.now l.out.positions.now a.out.now.normals.now l.out.normals.now a.out.now.tangents.now l.out.tangents.now l.invariant.2)

@@ -1,6 +1,6 @@
-use mathlib.Core.Path.{◌≡◌}
-use Prim.Native.Nat.{◌-◌, ◌≤◌}
-use lib.ListN.{length, take}
+use Prim.Native.Nat.{◌≤◌}
+use lib.ListN.{take}
+use Rattle.borrowed.specs.Attributes.{SameSlices}
 use Rattle.model.specs.Morph.{with_targets}
 use Rattle.model.specs.Attributes.{attributes_in}
 use Rattle.mesh.specs.Lent.{targets_in}
@@ -9,8 +9,7 @@ use Rattle.mesh.proofs.morphed.Given as goal
 
 abbrev pub invariant-loop-k : goal.invariant-loop-k
 invariant-loop-k l =
+    let first = l.initial.out in
     (l.k ≤ l.n)
-    × (length l.positions ≡ length l.initial.positions)
-    × (length l.normals ≡ length l.initial.normals)
-    × (length l.tangents ≡ length l.initial.tangents)
-    × Morphed (with_targets (take l.k (targets_in l.words l.floats l.h l.targets)) (take l.k l.weights) (attributes_in l.initial.positions l.initial.normals l.initial.tangents)) l.initial.positions l.positions l.initial.normals l.normals l.initial.tangents l.tangents
+    × SameSlices first l.out
+    × Morphed (with_targets (take l.k (targets_in l.lent.words.now l.lent.floats.now l.lent.header l.targets)) (take l.k l.weights) (attributes_in first.positions.now first.normals.now first.tangents.now)) first.positions.now l.out.positions.now first.normals.now l.out.normals.now first.tangents.now l.out.tangents.now

@@ -6,4 +6,4 @@ use Rattle.placing.proofs.children_of.Goals as goal
 pub returns : goal.returns
 returns c =
     c.words_in.ensures
-    ∙ ap (λ (r : NodeRow). span_in c.args.words.now r.children 1) c.node_row-row.ensures
+    ∙ ap (λ (r : NodeRow). span_in c.args.l.words.now r.children 1) c.node_row-row.ensures

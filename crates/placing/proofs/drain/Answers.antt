@@ -4,11 +4,16 @@ use Prim.Native.Nat.{ℕ}
 use native.Mathlib.Omega.{arith}
 use lib.ListN.{replicate}
 use Rattle.placing.specs.declared.Run.{Run}
-use Rattle.placing.proofs.Going.{marks, at_first, less, next, at_last}
+use Rattle.placing.specs.WalkRoom.{marks_in}
+use Rattle.placing.proofs.Going.{at_first, less, next, at_last}
 use Rattle.placing.proofs.drain.Goals as goal
 
 pub loop-h-init : goal.loop-h-init
-loop-h-init c = (at_first _ _ _ _ c.requires.ready c.requires.named, refl, refl, refl)
+loop-h-init c = (
+  at_first _ _ _ _ c.requires.ready c.requires.named,
+  record { stack = refl; places = refl; order = refl },
+  record { stack = refl; places = refl; order = refl },
+)
 
 pub step-h-requires : goal.step-h-requires
 step-h-requires c = record { ready = c.loop-h.invariant.0.ready; top_nonzero = c.loop-h-test.true }
@@ -17,33 +22,36 @@ pub overflow_add-taken : goal.overflow_add-taken
 overflow_add-taken c = omega (arith, c.loop-h.invariant.0.turns, c.requires.ready.room)
 
 pub loop-h-smaller : goal.loop-h-smaller
-loop-h-smaller c = omega (arith, less _ _ _ _ _ _ _ _ c.loop-h.invariant.0 c.loop-h-test.true _ _ _ c.step-h.ensures)
+loop-h-smaller c = omega (arith, less _ _ _ _ _ _ _ _ c.loop-h.invariant.0 c.loop-h-test.true _ _ _ c.step-h.ensures.steps)
 
 pub loop-h-preserved : goal.loop-h-preserved
 loop-h-preserved c =
-    let i = c.loop-h.invariant in (
-      next _ _ _ _ _ _ _ _ i.0 c.loop-h-test.true _ _ _ c.step-h.ensures c.step-h.auto.walk c.step-h.auto.places c.step-h.auto.order,
-      c.step-h.auto.walk ∙ i.1,
-      c.step-h.auto.places ∙ i.2,
-      c.step-h.auto.order ∙ i.3,
+    let i = c.loop-h.invariant in
+    let e = c.step-h.ensures in (
+      next _ _ _ _ _ _ _ _ i.0 c.loop-h-test.true _ _ _ e.steps e.same_lengths.stack e.same_lengths.places e.same_lengths.order,
+      record {
+        stack = e.same_slices.stack ∙ i.1.stack;
+        places = e.same_slices.places ∙ i.1.places;
+        order = e.same_slices.order ∙ i.1.order;
+      },
+      record {
+        stack = e.same_lengths.stack ∙ i.2.stack;
+        places = e.same_lengths.places ∙ i.2.places;
+        order = e.same_lengths.order ∙ i.2.order;
+      },
     )
-
-pub shape_of-walk : goal.shape_of-walk
-shape_of-walk c = c.finish.auto.walk ∙ c.loop-h.invariant.1
-
-pub shape_of-places : goal.shape_of-places
-shape_of-places c = c.loop-h.invariant.2
-
-pub shape_of-order : goal.shape_of-order
-shape_of-order c = c.loop-h.invariant.3
 
 pub returns : goal.returns
 returns c =
     let l = c.loop-h in
+    let i = l.invariant in
     record {
-      walk = c.finish.ensures.1 ∙ ap (λ (n : ℕ). replicate n 0) l.invariant.1;
-      ended =
-          at_last _ _ _ _ _ _ _ _ l.invariant.0 (omega (arith, c.loop-h-test.false))
-          ∙ ap (λ (r : Run). record { marks = marks l.places l.order r.placed; taken = r.taken })
-          (sym c.finish.ensures.0);
+      drains = record {
+        walk = c.finish.ensures.1 ∙ ap (λ (n : ℕ). replicate n 0) i.2.stack;
+        ended =
+            at_last _ _ _ _ _ _ _ _ i.0 (omega (arith, c.loop-h-test.false))
+            ∙ ap (λ (r : Run). record { marks = marks_in l.walk r.placed; taken = r.taken }) (sym c.finish.ensures.0);
+      };
+      same_slices = record { stack = i.1.stack; places = i.1.places; order = i.1.order };
+      same_lengths = record { stack = c.finish.auto.walk ∙ i.2.stack; places = i.2.places; order = i.2.order };
     }

@@ -1,14 +1,13 @@
-use mathlib.Core.Path.{◌≡◌}
-use lib.ListN.{length}
 use Rattle.placing.specs.Walk.{listing_in}
-use Rattle.placing.specs.WalkRoom.{pending}
-use Rattle.placing.proofs.Going.{marks, Going}
+use Rattle.placing.specs.WalkRoom.{pending, marks_in, SameSlices, SameLengths}
+use Rattle.placing.proofs.Going.{Going}
 use Rattle.placing.proofs.drain.Given as goal
 
 abbrev pub invariant-loop-h : goal.invariant-loop-h
 invariant-loop-h l =
-    Going (listing_in l.words l.graph) l.initial.walk l.top (marks l.initial.places l.initial.order 0) l.walk l.h.top (marks l.places l.order l.h.placed) l.taken
-    × (length l.walk ≡ length l.initial.walk) × (length l.places ≡ length l.initial.places) × (length l.order ≡ length l.initial.order)
+    let old = l.initial.walk in
+    Going (listing_in l.l.words.now l.l.graph) old.stack.now l.top (marks_in old 0) l.walk.stack.now l.h.top (marks_in l.walk l.h.placed) l.taken
+    × SameSlices old l.walk × SameLengths old l.walk
 
 abbrev pub decreases-loop-h : goal.decreases-loop-h
-decreases-loop-h l = pending (listing_in l.words l.graph) l.h.top l.places
+decreases-loop-h l = pending (listing_in l.l.words.now l.l.graph) l.h.top l.walk.places.now

@@ -5,11 +5,11 @@ use Rattle.placing.proofs.Stepping.{node-count}
 use Rattle.placing.proofs.Meaning.{of_part}
 use Rattle.placing.proofs.place.Goals as goal
 
-pub slice_bounds-fill-end-2 : goal.slice_bounds-fill-end-2
-slice_bounds-fill-end-2 c = sym (length-take-le _ _ c.requires.count_in_bounds)
+pub slice_bounds-lend-end-2 : goal.slice_bounds-lend-end-2
+slice_bounds-lend-end-2 c = sym (length-take-le _ _ c.requires.count_in_bounds)
 
-pub fill-requires : goal.fill-requires
-fill-requires c =
+pub lend-requires : goal.lend-requires
+lend-requires c =
     record {
       count_value = sym (length-take-le _ _ c.requires.count_in_bounds);
       count_le_node_limit = (c.requires.count_le_node_limit, search rules);
@@ -18,4 +18,4 @@ fill-requires c =
 
 pub returns : goal.returns
 returns c =
-    of_part _ c.args.places.now _ (node-count _ _) c.requires.count_in_bounds _ _ _ _ _ c.fill.ensures
+    of_part _ c.args.places.now _ (node-count _ _) c.requires.count_in_bounds _ _ _ _ _ c.lend.ensures

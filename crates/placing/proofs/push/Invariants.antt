@@ -8,9 +8,6 @@ use Rattle.placing.proofs.push.Given as goal
 
 abbrev pub invariant-loop-i : goal.invariant-loop-i
 invariant-loop-i l =
-    (l.n ≡ length l.list) × (l.i ≤ l.n) × (l.at ≡ l.top + l.i)
-    × (stack_of l.walk l.at ≡ listed_as l.code (drop (l.n - l.i) l.list) ++ stack_of l.initial.walk l.top) × (length l.walk ≡ length l.initial.walk)
-    × (l.walk ≡ paste l.initial.walk (2 * l.top) (words_for l.code (drop (l.n - l.i) l.list)) (2 * l.i))
-
-abbrev pub decreases-loop-i : goal.decreases-loop-i
-decreases-loop-i l = l.n - l.i
+    (l.i ≤ length l.list) × (l.at + l.i ≡ l.top + length l.list)
+    × (stack_of l.walk l.at ≡ listed_as l.code (drop l.i l.list) ++ stack_of l.initial.walk l.top) × (length l.walk ≡ length l.initial.walk)
+    × (l.walk ≡ paste l.initial.walk (2 * l.top) (words_for l.code (drop l.i l.list)) (2 * (length l.list - l.i)))

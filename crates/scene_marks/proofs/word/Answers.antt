@@ -2,15 +2,16 @@ use mathlib.Core.Path.{◌≡◌, sym, ap, ◌∙◌}
 use mathlib.Core.List.{List}
 use Prim.Native.Nat.{ℕ, ◌+◌, ◌*◌}
 use lib.ListN.{get_or}
+use Rattle.std.proofs.Common.{Some}
 use Rattle.scene_schema.specs.declared.Source.{Source}
 use Rattle.scene_schema.specs.Numbers.{slot_rules, no_rule}
 use Rattle.scene_marks.specs.declared.Mark.{Mark}
 use Rattle.scene_marks.specs.Marks.{mark_at, entries_in, word_from}
 use Rattle.scene_marks.proofs.word.Goals as goal
 
-module _ (k : ℕ) (marks : List ℕ) where
-  told : {found source : Source} → found ≡ source → word_from k marks source ≡ word_from k marks found
-  told e = sym (ap (word_from k marks) e)
+module _ (k : ℕ) (marks : List Mark) where
+  told : {found source : Source} → found ≡ source → word_from k marks (Some source) ≡ word_from k marks (Some found)
+  told e = sym (ap (λ (s : Source). word_from k marks (Some s)) e)
 
   mark : {m : Mark} {i j : ℕ} → m ≡ mark_at marks i → i ≡ j → m ≡ mark_at marks j
   mark e h = e ∙ ap (mark_at marks) h

@@ -1,6 +1,5 @@
 use mathlib.Core.Path.{refl}
-use Prim.Native.Nat.{◌-◌}
-use Rattle.checks.specs.Drawn.{lent_as}
+use Rattle.tables.specs.Decoded.{lent_of}
 use Rattle.spelling.proofs.Pushing.{going-length}
 use Rattle.scene_writing.proofs.TableLaws.{record-more, table_done}
 use Rattle.scene_writing.proofs.put_table.Goals as goal
@@ -10,15 +9,11 @@ loop-i-init c = refl
 
 pub loop-i-preserved : goal.loop-i-preserved
 loop-i-preserved c =
-    let a = c.args in
-    let l = lent_as a.words.now a.floats.now a.node_weights.now a.mesh_weights.now a.h in
-    record-more l _ _ _ _ _ c.loop-i.invariant c.loop-i-test.true c.put_record-next.ensures
+    record-more (lent_of c.args.lent) _ _ _ _ _ c.loop-i.invariant c.loop-i-test.true c.put_record-next.ensures
 
 pub shape_of-out : goal.shape_of-out
 shape_of-out c = going-length _ _ _ _ c.loop-i.invariant
 
 pub returns : goal.returns
 returns c =
-    let a = c.args in
-    let l = lent_as a.words.now a.floats.now a.node_weights.now a.mesh_weights.now a.h in
-    table_done l _ _ _ _ c.table_for-t.ensures c.loop-i.invariant c.loop-i-test.false
+    table_done (lent_of c.args.lent) _ _ _ _ c.table_for-t.ensures c.loop-i.invariant c.loop-i-test.false

@@ -1,5 +1,4 @@
 use mathlib.Core.Path.{refl, ◌∙◌}
-use Prim.Native.Nat.{◌-◌}
 use Rattle.spelling.proofs.Pushing.{going-length, put-append}
 use Rattle.scene_spelling.proofs.FieldLaws.{put_same, put-length}
 use Rattle.scene_writing.proofs.TableLaws.{tables_more, tables-done, scene-text}

@@ -1,4 +1,4 @@
-use Rattle.std.proofs.Common.{◌≡◌, ℕ, List, Float, Result, Ok, Err, ap, ap₂, subst₂, sym}
+use Rattle.std.proofs.Common.{◌≡◌, ℕ, List, Float, Result, Ok, Err}
 use Rattle.refusals.specs.declared.Refusal.{Refusal}
 use Rattle.refusals.specs.Drawn.{number_drawn, count_of}
 use Rattle.outputs.specs.Output.{CopiedOut}

@@ -1,14 +1,12 @@
-use mathlib.Core.Path.{◌≡◌}
 use Prim.Native.Nat.{◌≤◌}
-use lib.ListN.{length}
+use Rattle.borrowed.specs.Attributes.{SameSlices}
 use Rattle.model.specs.Lists.{rows_in}
 use Rattle.skinning.specs.Moved.{MovedFrom}
 use Rattle.skinning.proofs.skin_each.Given as goal
 
 abbrev pub invariant-loop-i : goal.invariant-loop-i
 invariant-loop-i l =
+    let first = l.initial.out in
     (l.i ≤ l.n)
-    × (length l.positions ≡ length l.initial.positions)
-    × (length l.normals ≡ length l.initial.normals)
-    × (length l.tangents ≡ length l.initial.tangents)
-    × MovedFrom (rows_in 16 l.palette) (rows_in 4 l.joints) (rows_in 4 l.weights) l.k l.i l.initial.positions l.positions l.initial.normals l.normals l.initial.tangents l.tangents
+    × SameSlices first l.out
+    × MovedFrom (rows_in 16 l.by.palette.now) (rows_in 4 l.by.joints.now) (rows_in 4 l.by.weights.now) l.k l.i first.positions.now l.out.positions.now first.normals.now l.out.normals.now first.tangents.now l.out.tangents.now

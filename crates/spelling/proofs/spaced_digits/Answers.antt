@@ -18,15 +18,15 @@ overflow_sub-out c = let a = c.args in omega (arith, length-set a.out.now a.at 3
 pub shape_of-out-then-count-out : goal.shape_of-out-then-count-out
 shape_of-out-then-count-out c =
     let a = c.args in
-    c.digits_inside.auto.out ∙ length-set a.out.now a.at 32
+    c.digits.auto.out ∙ length-set a.out.now a.at 32
 
 pub returns-then-count-out : goal.returns-then-count-out
-returns-then-count-out c = rw add-one at c.digits_inside.ensures
+returns-then-count-out c = rw add-one at c.digits.ensures
 
 pub shape_of-out-else-count-out : goal.shape_of-out-else-count-out
 shape_of-out-else-count-out c =
     let a = c.args in
-    c.digits.auto.out ∙ length-set a.out.now a.at 32
+    c.digits-else-count-out.auto.out ∙ length-set a.out.now a.at 32
 
 pub returns-else-count-out : goal.returns-else-count-out
-returns-else-count-out c = rw add-one at c.digits.ensures
+returns-else-count-out c = rw add-one at c.digits-else-count-out.ensures

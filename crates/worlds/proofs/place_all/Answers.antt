@@ -1,10 +1,16 @@
 use mathlib.Core.Path.{sym, ap, ◌∙◌}
 use mathlib.Core.List.{◌++◌}
 use Prim.Native.Nat.{ℕ, ◌*◌}
-use lib.ListN.{drop}
-use lib.Seq.{length-take-le}
+use mathlib.Core.Option.{none}
+use lib.ListN.{drop, replicate}
+use Rattle.model.specs.Scene.{node_count}
+use Rattle.model.specs.Placing.{order}
+use Rattle.model.specs.World.{worlds_from}
+use Rattle.placing.specs.Walk.{listing_in}
+use Rattle.worlds.specs.Slots.{slots_of}
 use Rattle.placing.proofs.Stepping.{node-count}
-use Rattle.worlds.specs.Posed.{local_in}
+use Rattle.tables.specs.Decoded.{lent_of}
+use Rattle.worlds.specs.Posed.{local_of}
 use Rattle.worlds.proofs.Filled.{part_length, order-holds, all-worlds}
 use Rattle.worlds.proofs.place_all.Goals as goal
 
@@ -14,23 +20,24 @@ slice_bounds-order-end c = order-holds _ _ _ _ _ _ c.place-run.ensures
 pub slice_bounds-write_worlds-end : goal.slice_bounds-write_worlds-end
 slice_bounds-write_worlds-end c = sym (part_length _ _ _ _ _ _ c.place-run.ensures)
 
-pub slice_bounds-write_worlds-end-3 : goal.slice_bounds-write_worlds-end-3
-slice_bounds-write_worlds-end-3 c = sym (length-take-le _ c.args.worlds.now c.requires.count_in_bounds)
+pub write_worlds-requires : goal.write_worlds-requires
+write_worlds-requires c = c.requires.worlds
 
-pub returns : goal.returns
-returns c =
+pub returns-clause-run : goal.returns-clause-run
+returns-clause-run c =
     let a = c.args in
     let run = c.place-run.ensures in
-    let m = a.graph.nodes.count * 16 in
-    let n = node-count a.words.now a.graph in
-    let local = local_in a.words.now a.floats.now a.graph.nodes a.marks.now a.slots.now in
+    let w = c.write_worlds.ensures.worlds_alone in
+    let room = a.room.now in
+    let graph = a.lent.header.graph in
+    let k = ap (λ (k : ℕ). k * 16) (node-count a.lent.words.now graph) in
+    let local = local_of (lent_of a.lent) a.marks.now a.slots.now in
     record {
-      walk = run.walk;
-      codes = run.places;
+      walk = w.0 ∙ run.walk;
+      codes = w.1 ∙ run.places;
       floats =
-          (λ j.
-          (c.write_worlds.ensures
-          ∙ all-worlds _ _ _ _ _ _ run local _ (length-take-le m a.worlds.now c.requires.count_in_bounds ∙ sym (ap (λ (k : ℕ). k * 16) n))) j
-          ++ drop (ap (λ (k : ℕ). k * 16) (sym n) j) a.worlds.now);
+          w.2
+          ∙ all-worlds _ _ _ _ _ _ run local (graph.nodes.count * 16) (drop (graph.nodes.count * 16) room.worlds.now) (sym k)
+          ∙ ap (λ (d : ℕ). slots_of (worlds_from local (replicate (node_count (listing_in a.lent.words.now graph)) none) (order (listing_in a.lent.words.now graph))) ++ drop d room.worlds.now) (sym k);
       entries = run.entries;
     }

@@ -1,5 +1,4 @@
 use mathlib.Core.Path.{sym}
-use Prim.Native.Nat.{◌-◌}
 use borrow.Author.Rules.{rules}
 use Rattle.model.proofs.Located.{located-before, located_after}
 use Rattle.animation.proofs.Halving.{on-key, first-to-last, between-neighbours}

@@ -43,6 +43,6 @@ returns-in-Line c =
 
 pub returns-in-Spline : goal.returns-in-Spline
 returns-in-Spline c =
-    c.cubic4.ensures ∙ four-rows quats 4 _ c.args.frames.now c.args.blend _ _ _ _ _ _
+    c.cubic.ensures ∙ four-rows quats 4 _ c.args.frames.now c.args.blend _ _ _ _ _ _
     c.in-Spline.is c.quat_at-v.ensures
     c.quat_at-out.ensures c.quat_at-in-Spline.ensures c.quat_at-into.ensures

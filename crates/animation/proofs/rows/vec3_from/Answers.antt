@@ -38,11 +38,11 @@ returns-in-Held c =
 
 pub returns-in-Line : goal.returns-in-Line
 returns-in-Line c =
-    c.lerp3.ensures ∙ two-rows vec3s 3 _ c.args.frames.now c.args.blend _ _ _
+    c.lerp.ensures ∙ two-rows vec3s 3 _ c.args.frames.now c.args.blend _ _ _
     c.in-Line.is c.vec3_at-in-Line.ensures c.vec3_at-in-Line-2.ensures
 
 pub returns-in-Spline : goal.returns-in-Spline
 returns-in-Spline c =
-    c.cubic3.ensures ∙ four-rows vec3s 3 _ c.args.frames.now c.args.blend _ _ _ _ _ _
+    c.cubic.ensures ∙ four-rows vec3s 3 _ c.args.frames.now c.args.blend _ _ _ _ _ _
     c.in-Spline.is c.vec3_at-v.ensures
     c.vec3_at-out.ensures c.vec3_at-in-Spline.ensures c.vec3_at-into.ensures

@@ -1,4 +1,3 @@
-use mathlib.Core.Path.{◌∙◌}
 use native.Mathlib.Omega.{arith}
 use Rattle.animation.proofs.SourceLaws.{within, held-weight, line-weight, spline-weight}
 use Rattle.animation.proofs.weights.weight_from.Goals as goal
@@ -38,13 +37,10 @@ returns-in-Held c =
 
 pub returns-in-Line : goal.returns-in-Line
 returns-in-Line c =
-    c.mix.ensures
-    ∙ line-weight c.args.frames.now c.args.n c.args.centre c.args.blend c.args.j c.requires.0 c.requires.1 _ _ _
-    c.in-Line.is c.entry_of-in-Line.ensures c.entry_of-in-Line-2.ensures
+    line-weight c.args.frames.now c.args.n c.args.centre c.args.blend c.args.j c.requires.0 c.requires.1 _ _ _ _
+    c.in-Line.is c.lerp.ensures c.entry_of-in-Line.ensures c.entry_of-in-Line-2.ensures
 
 pub returns-in-Spline : goal.returns-in-Spline
 returns-in-Spline c =
-    c.cubic1.ensures
-    ∙ spline-weight c.args.frames.now c.args.n c.args.centre c.args.blend c.args.j c.requires.0 c.requires.1 _ _ _ _ _ _ _ _ _ _
-    c.in-Spline.is c.hermite.ensures.0 c.hermite.ensures.1 c.hermite.ensures.2 c.hermite.ensures.3 c.entry_of-v.ensures
-    c.entry_of-out.ensures c.entry_of-in-Spline.ensures c.entry_of-into.ensures
+    spline-weight c.args.frames.now c.args.n c.args.centre c.args.blend c.args.j c.requires.0 c.requires.1 _ _ _ _ _ _ _
+    c.in-Spline.is c.cubic.ensures c.entry_of-v.ensures c.entry_of-out.ensures c.entry_of-in-Spline.ensures c.entry_of-into.ensures

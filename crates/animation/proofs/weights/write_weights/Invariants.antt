@@ -1,4 +1,3 @@
-use Prim.Native.Nat.{◌-◌}
 use Rattle.model.specs.Scene.{scalars}
 use Rattle.model.proofs.Filling.{Filled}
 use Rattle.animation.specs.SourceRows.{from_rows}

@@ -9,15 +9,15 @@ use Rattle.byte_checks.proofs.calls.check_room.Goals as goal
 pub returns-then-is_short_for : goal.returns-then-is_short_for
 returns-then-is_short_for c =
     let a = c.args in
-    let short : c.is_short_for.result ≡ short_in (words_in a.words.now) a.graph a.walk a.poses a.worlds
+    let short : c.is_short_for.result ≡ short_in (words_in a.words.now) a.graph a.space.walk a.space.poses a.space.worlds
     = c.is_short_for.ensures
-    ∙ ap (λ (n : ℕ). short_for n a.graph a.walk a.poses a.worlds) c.child_entries-children.ensures in
+    ∙ ap (λ (n : ℕ). short_for n a.graph a.space.walk a.space.poses a.space.worlds) c.child_entries-children.ensures in
     sym (λ j. pick ((sym short ∙ c.if-is_short_for.true) j) 6 (number_drawn a.drawn))
 
 pub returns : goal.returns
 returns c =
     let a = c.args in
-    let short : c.is_short_for.result ≡ short_in (words_in a.words.now) a.graph a.walk a.poses a.worlds
+    let short : c.is_short_for.result ≡ short_in (words_in a.words.now) a.graph a.space.walk a.space.poses a.space.worlds
     = c.is_short_for.ensures
-    ∙ ap (λ (n : ℕ). short_for n a.graph a.walk a.poses a.worlds) c.child_entries-children.ensures in
+    ∙ ap (λ (n : ℕ). short_for n a.graph a.space.walk a.space.poses a.space.worlds) c.child_entries-children.ensures in
     sym (λ j. pick ((sym short ∙ c.if-is_short_for.false) j) 6 (number_drawn a.drawn))

@@ -1,6 +1,6 @@
 use mathlib.Core.Path.{◌≡◌}
 use mathlib.Core.Bool.{false}
-use Prim.Native.Nat.{ℕ, ◌-◌, ◌≤◌, ◌<◌}
+use Prim.Native.Nat.{ℕ, ◌≤◌, ◌<◌}
 use Rattle.wire.specs.Bytes.{words_in, floats_in}
 use Rattle.tables.specs.Records.{channel_row}
 use Rattle.pose_slots.specs.Channels.{channel_in}

@@ -15,4 +15,4 @@ returns c =
     c.channel_row.ensures
     ∙ channel-alone (words_in a.words.now) a.channels a.i _ _ c.alone.ensures
     (decoded a.words.now a.channels table.Channels a.i _ _ _ c.record_bytes.ensures
-    c.read_words-n.ensures)
+    c.read-n.ensures)

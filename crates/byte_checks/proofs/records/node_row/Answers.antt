@@ -14,4 +14,4 @@ returns c =
     let a = c.args in
     c.node_row.ensures
     ∙ node-alone (words_in a.words.now) a.nodes a.i _ _ c.alone.ensures
-    (decoded a.words.now a.nodes table.Nodes a.i _ _ _ c.record_bytes.ensures c.read_words-n.ensures)
+    (decoded a.words.now a.nodes table.Nodes a.i _ _ _ c.record_bytes.ensures c.read-n.ensures)

@@ -5,8 +5,8 @@ use Rattle.checks.proofs.numbers.check_children.Goals as goal
 
 pub returns : goal.returns
 unfolding children_number
-returns c =
+returns g c =
     let a = c.args in
     c.check_entries.ensures
     ∙ ap entries_number c.child_entries.ensures
-    ∙ capped-number (sum_below a.nodes.count (child_count a.words.now a.nodes))
+    ∙ capped-number (sum_below a.nodes.count (child_count (g.W.Words.said a.words) a.nodes))

@@ -4,7 +4,7 @@ use Rattle.checks.proofs.numbers.check_listed.Goals as goal
 
 pub returns : goal.returns
 unfolding listed_number
-returns c floats e =
+returns g c floats e =
     let n1 = c.check_whole-skeletons.ensures floats e in
     let n2 = c.lower-skins.ensures ∙ (λ j. lower_of (c.check_whole.ensures floats e j) (n1 j)) in
     let n3 = c.lower-between.ensures ∙ (λ j. lower_of (c.check_whole-2.ensures floats e j) (n2 j)) in

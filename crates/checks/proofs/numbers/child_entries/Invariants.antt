@@ -4,4 +4,4 @@ use Rattle.checks.specs.Drawn.{entry_cap, sum_below, child_count}
 use Rattle.checks.proofs.numbers.child_entries.Given as goal
 
 abbrev pub invariant-loop-i : goal.invariant-loop-i
-invariant-loop-i l = (l.count ≡ l.nodes.count) × (l.i ≤ l.count) × (l.sum ≡ min (sum_below l.i (child_count l.words l.nodes)) entry_cap)
+invariant-loop-i g l = (l.count ≡ l.nodes.count) × (l.i ≤ l.count) × (l.sum ≡ min (sum_below l.i (child_count (g.W.Words.said l.words) l.nodes)) entry_cap)

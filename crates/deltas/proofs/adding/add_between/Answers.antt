@@ -1,6 +1,6 @@
 -- The first k floats are done.
 use mathlib.Core.Path.{◌≡◌, refl, sym, ap, ◌∙◌}
-use Prim.Native.Nat.{ℕ, ◌-◌, ◌*◌, ◌/◌}
+use Prim.Native.Nat.{ℕ, ◌*◌, ◌/◌}
 use native.Mathlib.Omega.{arith}
 use borrow.Author.Rules.{rules}
 use lib.Ieee.{nan}
@@ -30,7 +30,7 @@ returns c =
     let a = c.args in
     let l = c.loop-k in
     let f = mixed_float a.t a.low.now (length a.low.now / 3 * 3) a.high.now (length a.high.now / 3 * 3) in
-    let e : l.k ≡ c.least-n.result * 3 = omega arith in
+    let e : l.k ≡ c.min-n.result * 3 = omega arith in
     l.invariant.2
-    ∙ ap (done_to f nan a.out.now) (e ∙ ap (λ (m : ℕ). m * 3) c.least-n.ensures)
+    ∙ ap (done_to f nan a.out.now) (e ∙ ap (λ (m : ℕ). m * 3) c.min-n.ensures)
     ∙ mixed-rows a.t a.out.now a.low.now a.high.now a.count

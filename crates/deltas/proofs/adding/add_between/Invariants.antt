@@ -1,5 +1,5 @@
 use mathlib.Core.Path.{◌≡◌}
-use Prim.Native.Nat.{◌-◌, ◌*◌, ◌/◌, ◌≤◌}
+use Prim.Native.Nat.{◌*◌, ◌/◌, ◌≤◌}
 use lib.Ieee.{nan}
 use lib.ListN.{length}
 use Rattle.deltas.proofs.Floatwise.{done_to}

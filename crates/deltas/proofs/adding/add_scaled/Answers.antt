@@ -1,6 +1,6 @@
 -- The first k floats are done.
 use mathlib.Core.Path.{◌≡◌, refl, sym, ap, ◌∙◌}
-use Prim.Native.Nat.{ℕ, ◌-◌, ◌*◌}
+use Prim.Native.Nat.{ℕ, ◌*◌}
 use native.Mathlib.Omega.{arith}
 use borrow.Author.Rules.{rules}
 use lib.Ieee.{nan}
@@ -21,6 +21,6 @@ pub returns : goal.returns
 returns c =
     let a = c.args in
     let l = c.loop-k in
-    let n = c.least-n.ensures in
-    let e : l.k ≡ c.least-n.result * 3 = omega arith in
+    let n = c.min-n.ensures in
+    let e : l.k ≡ c.min-n.result * 3 = omega arith in
     l.invariant.2 ∙ ap (done_to (scaled a.w a.deltas.now) nan a.out.now) (e ∙ ap (λ (m : ℕ). m * 3) n) ∙ scaled-rows a.w a.out.now a.deltas.now

@@ -1,6 +1,6 @@
 -- The first i tangents are done.
 use mathlib.Core.Path.{◌≡◌, refl, sym, ap, ◌∙◌}
-use Prim.Native.Nat.{◌+◌, ◌-◌, ◌*◌}
+use Prim.Native.Nat.{◌+◌, ◌*◌}
 use native.Mathlib.Omega.{arith}
 use borrow.Author.Rules.{rules}
 use lib.ListN.{set}
@@ -27,5 +27,5 @@ pub returns : goal.returns
 returns c =
     let a = c.args in
     let l = c.loop-i in
-    let e : l.i ≡ c.least-n.result = omega arith in
-    l.invariant.2 ∙ ap (xyz_done a.w a.out.now a.deltas.now) (e ∙ c.least-n.ensures) ∙ xyz-rows a.w a.out.now a.deltas.now
+    let e : l.i ≡ c.min-n.result = omega arith in
+    l.invariant.2 ∙ ap (xyz_done a.w a.out.now a.deltas.now) (e ∙ c.min-n.ensures) ∙ xyz-rows a.w a.out.now a.deltas.now

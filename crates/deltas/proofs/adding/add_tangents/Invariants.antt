@@ -1,5 +1,5 @@
 use mathlib.Core.Path.{◌≡◌}
-use Prim.Native.Nat.{◌-◌, ◌≤◌}
+use Prim.Native.Nat.{◌≤◌}
 use lib.ListN.{length}
 use Rattle.deltas.proofs.AddLaws.{xyz_done}
 use Rattle.deltas.proofs.adding.add_tangents.Given as goal

@@ -1,6 +1,6 @@
 use mathlib.Core.Path.{◌≡◌}
 use mathlib.Core.Bool.{Bool, false}
-use Prim.Native.Nat.{◌-◌, ◌≤◌}
+use Prim.Native.Nat.{◌≤◌}
 use lib.ListN.{take}
 use Rattle.model.specs.Lists.{any_of}
 use Rattle.model.specs.Scene.{InBetween}
@@ -12,4 +12,4 @@ abbrev pub is_valid : InBetween → Bool
 is_valid b = valid b.weight
 
 abbrev pub invariant-loop-k : goal.invariant-loop-k
-invariant-loop-k l = (l.k ≤ l.betweens.count) × (any_of is_valid (take l.k (betweens_in l.words l.floats l.h l.betweens)) ≡ false)
+invariant-loop-k l = (l.k ≤ l.betweens.count) × (any_of is_valid (take l.k (betweens_in l.lent.words.now l.lent.floats.now l.lent.header l.betweens)) ≡ false)

@@ -2,7 +2,7 @@
 use mathlib.Core.Path.{◌≡◌, refl, sym, ap, ◌∙◌}
 use mathlib.Core.Bool.{Bool, true, false}
 use mathlib.Core.List.{List}
-use Prim.Native.Nat.{ℕ, ◌+◌, ◌-◌}
+use Prim.Native.Nat.{ℕ, ◌+◌}
 use native.Mathlib.Omega.{arith}
 use lib.Ieee.{Float, eq}
 use lib.ListN.{take}
@@ -22,16 +22,13 @@ pub loop-k-init : goal.loop-k-init
 unfolding keep
 loop-k-init c = (omega arith, omega arith, refl)
 
-pub overflow_add-n : goal.overflow_add-n
-overflow_add-n c = record { fits = omega (arith, c.well_formed.1.1.1.0) }
-
 pub loop-k-preserved : goal.loop-k-preserved
 loop-k-preserved c =
     let a = c.args in
     let l = c.loop-k in
-    let list = betweens_in a.words.now a.floats.now a.h a.betweens in
-    let n = between-count a.words.now a.floats.now a.h a.betweens in
-    let v = ap (λ (s : Station). s.weight) c.station_at.ensures ∙ sym (between-weight a.words.now a.floats.now a.h a.betweens l.k (omega arith)) in
+    let list = betweens_in a.lent.words.now a.lent.floats.now a.lent.header a.betweens in
+    let n = between-count a.lent.words.now a.lent.floats.now a.lent.header a.betweens in
+    let v = ap (λ (s : Station). s.weight) c.station_at.ensures ∙ sym (between-weight a.lent.words.now a.lent.floats.now a.lent.header a.betweens l.k (omega arith)) in
     let more : (b : Bool) → eq c.station_at.result.weight a.w ≡ b → sharing (take (l.k + 1) list) a.w ≡ l.n + pick b 1 0
     = λ b e. kept_more (λ (x : InBetween). eq x.weight a.w) list l.k unread b (omega arith) (ap (λ (x : Float). eq x a.w) (sym v) ∙ e) ∙ ap (λ (m : ℕ). m + pick b 1 0) (sym l.invariant.2) in
     elim c.if-station_at-w.branch [
@@ -43,6 +40,6 @@ pub returns : goal.returns
 returns c =
     let a = c.args in
     let l = c.loop-k in
-    let list = betweens_in a.words.now a.floats.now a.h a.betweens in
-    let n = between-count a.words.now a.floats.now a.h a.betweens in
+    let list = betweens_in a.lent.words.now a.lent.floats.now a.lent.header a.betweens in
+    let n = between-count a.lent.words.now a.lent.floats.now a.lent.header a.betweens in
     l.invariant.2 ∙ ap (λ (m : List InBetween). sharing m a.w) (take_all l.k list (omega arith))

@@ -7,7 +7,7 @@ use Rattle.deltas.proofs.betweens.station_at.Goals as goal
 pub returns : goal.returns
 returns c =
     let row = c.between_at-row.ensures in
-    let floats = c.args.floats.now in
+    let floats = c.args.lent.floats.now in
     (λ j. record {
       weight = (c.weight_of-weight.ensures ∙ ap (λ (r : InBetweenRow). get_or floats r.weight zero32) row) j;
       positions = (row j).positions;

@@ -1,11 +1,10 @@
-use Prim.Native.Nat.{◌-◌}
 use Rattle.float.specs.Narrow.{narrow_of}
 use Rattle.model.proofs.Filling.{same_length, inside, done}
 use Rattle.entries.proofs.Filling.{start-map, inside-map, step_map}
 use Rattle.entries.proofs.leaves.mesh3d_narrow_all.Goals as goal
 
 pub loop-i-init : goal.loop-i-init
-loop-i-init c = start-map narrow_of c.args.xs.now _ _ c.least-n.ensures
+loop-i-init c = start-map narrow_of c.args.xs.now _ _ c.min-n.ensures
 
 pub bounds-xs-i : goal.bounds-xs-i
 bounds-xs-i c = inside-map narrow_of c.args.xs.now _ _ _ _ c.loop-i.invariant c.loop-i-test.true

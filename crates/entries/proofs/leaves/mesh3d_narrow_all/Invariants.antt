@@ -1,4 +1,3 @@
-use Prim.Native.Nat.{◌-◌}
 use mathlib.Core.List.{map}
 use Rattle.float.specs.Narrow.{narrow_of}
 use Rattle.model.proofs.Filling.{Filled}

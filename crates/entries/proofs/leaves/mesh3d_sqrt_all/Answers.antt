@@ -1,4 +1,3 @@
-use Prim.Native.Nat.{◌-◌}
 use lib.Ieee.{binary32}
 use Rattle.float.specs.Sqrt.{sqrt_of}
 use Rattle.model.proofs.Filling.{same_length, inside, done}
@@ -6,7 +5,7 @@ use Rattle.entries.proofs.Filling.{start-map, inside-map, step_map}
 use Rattle.entries.proofs.leaves.mesh3d_sqrt_all.Goals as goal
 
 pub loop-i-init : goal.loop-i-init
-loop-i-init c = start-map (sqrt_of binary32) c.args.xs.now _ _ c.least-n.ensures
+loop-i-init c = start-map (sqrt_of binary32) c.args.xs.now _ _ c.min-n.ensures
 
 pub bounds-xs-i : goal.bounds-xs-i
 bounds-xs-i c = inside-map (sqrt_of binary32) c.args.xs.now _ _ _ _ c.loop-i.invariant c.loop-i-test.true

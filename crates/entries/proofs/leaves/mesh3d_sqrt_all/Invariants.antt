@@ -1,4 +1,3 @@
-use Prim.Native.Nat.{◌-◌}
 use mathlib.Core.List.{map}
 use lib.Ieee.{binary32}
 use Rattle.float.specs.Sqrt.{sqrt_of}

@@ -1,11 +1,10 @@
-use Prim.Native.Nat.{◌-◌}
 use Rattle.turn.specs.Weight.{weight}
 use Rattle.model.proofs.Filling.{same_length, inside, done}
 use Rattle.entries.proofs.Filling.{start-zip, inside-zip, step-zip}
 use Rattle.entries.proofs.leaves.mesh3d_turn_weight_all.Goals as goal
 
 pub loop-i-init : goal.loop-i-init
-loop-i-init c = start-zip weight c.args.vs.now c.args.cs.now _ _ _ c.least.ensures c.least-n.ensures
+loop-i-init c = start-zip weight c.args.vs.now c.args.cs.now _ _ _ c.min.ensures c.min-n.ensures
 
 pub bounds-vs-i : goal.bounds-vs-i
 bounds-vs-i c = (inside-zip weight c.args.vs.now c.args.cs.now _ _ _ _ c.loop-i.invariant c.loop-i-test.true).0

@@ -1,4 +1,3 @@
-use Prim.Native.Nat.{◌-◌}
 use mathlib.Core.List.{zip_with}
 use Rattle.turn.specs.Weight.{weight}
 use Rattle.model.proofs.Filling.{Filled}

@@ -1,28 +1,29 @@
 use mathlib.Core.Bool.{Bool}
 use mathlib.Core.Path.{sym, ap, ◌∙◌}
 use borrow.Author.Tests.{eq-eqb, ne_eqb}
+use Rattle.refusals.specs.Drawn.{number_drawn}
+use Rattle.refusals.proofs.Told.{not-none}
 use Rattle.model.specs.Lists.{pick}
-use Rattle.checks.specs.Drawn.{lent_as, tables_number}
+use Rattle.tables.specs.Decoded.{lent_of}
+use Rattle.checks.specs.Drawn.{tables_number}
 use Rattle.faults.specs.Faults.{no_fault, spots, spots_for, first_with, fault_of}
 use Rattle.faults.proofs.spots.scene_fault.Goals as goal
 
-pub returns-then-n-eq0 : goal.returns-then-n-eq0
+pub returns-in-Ok : goal.returns-in-Ok
 unfolding fault_of
-returns-then-n-eq0 c =
-    let a = c.args in
-    let l = lent_as a.words.now a.floats.now a.node_weights.now a.mesh_weights.now a.h in
-    let none = sym (c.number-n.ensures ∙ c.check_tables.ensures) ∙ c.if-n-eq0.true in
-    c.no_fault.ensures
+returns-in-Ok c =
+    let l = lent_of c.args.lent in
+    let none = sym c.check_tables.ensures ∙ ap number_drawn c.in-Ok.is in
+    c.from.ensures
     ∙ ap (λ (b : Bool). pick b no_fault (first_with (tables_number l) (spots l))) (sym (eq-eqb (tables_number l) 0 none))
 
-pub returns : goal.returns
+pub returns-in-Err : goal.returns-in-Err
 unfolding fault_of
-returns c =
-    let a = c.args in
-    let l = lent_as a.words.now a.floats.now a.node_weights.now a.mesh_weights.now a.h in
-    let number = c.number-n.ensures ∙ c.check_tables.ensures in
-    let some = c.if-n-eq0.false in
-    c.first_fault.ensures some
-    ∙ (λ j. first_with (number j) (spots_for a.words.now (c.sizes_for-s.ensures j) a.h))
+returns-in-Err c =
+    let l = lent_of c.args.lent in
+    let number = sym c.check_tables.ensures ∙ ap number_drawn c.in-Err.is in
+    c.from-in-Err.ensures
+    ∙ c.first_spot.ensures
+    ∙ (λ j. first_with (sym number j) (spots_for l.words (c.sizes_of.ensures j) l.header))
     ∙ ap (λ (b : Bool). pick b no_fault (first_with (tables_number l) (spots l)))
-    (sym (ne_eqb (tables_number l) 0 (λ z. some (number ∙ z))))
+    (sym (ne_eqb (tables_number l) 0 (λ z. not-none c.in-Err.n (sym number ∙ z))))

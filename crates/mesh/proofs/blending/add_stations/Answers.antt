@@ -14,9 +14,9 @@ pub returns : goal.returns
 returns c =
     let a = c.args in
     let b = c.blend_of-b in
-    let t = target_of (lent_in a.words.now a.floats.now a.h) a.row in
+    let t = target_of (lent_in a.lent.words.now a.lent.floats.now a.lent.header) a.row in
     let added : List Float → List Vector → List Float = λ lent ds. over_rows 3 (with_deltas ◌⊞◌ (rows_in 3 lent) ds) lent in
     record {
-      positions = c.add_blended.ensures ∙ ap (added a.positions.now) (sym (position-deltas a.floats.now t a.row.positions a.w b.result b.ensures));
-      normals = c.add_blended-2.ensures ∙ ap (added a.normals.now) (sym (normal-deltas a.floats.now t a.row.normals a.w b.result b.ensures));
+      positions = c.add_blended.ensures ∙ ap (added a.positions.now) (sym (position-deltas a.lent.floats.now t a.row.positions a.w b.result b.ensures));
+      normals = c.add_blended-2.ensures ∙ ap (added a.normals.now) (sym (normal-deltas a.lent.floats.now t a.row.normals a.w b.result b.ensures));
     }

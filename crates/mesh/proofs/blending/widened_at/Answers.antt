@@ -9,17 +9,17 @@ pub returns-then-is_kept : goal.returns-then-is_kept
 unfolding widened_by
 returns-then-is_kept c =
     let a = c.args in
-    let all = betweens_in a.words.now a.floats.now a.h a.betweens in
+    let all = betweens_in a.lent.words.now a.lent.floats.now a.lent.header a.betweens in
     let s = c.station_at-s in
     c.widened.ensures
-    ∙ ap (λ (k : Bool). pick k (widened_in a.floats.now a.w a.b s.result) a.b) (sym c.if-is_kept.true ∙ c.is_kept.ensures)
-    ∙ ap (widened_by a.floats.now a.w all a.b) s.ensures
+    ∙ ap (λ (k : Bool). pick k (widened_in a.lent.floats.now a.w a.b s.result) a.b) (sym c.if-is_kept.true ∙ c.is_kept.ensures)
+    ∙ ap (widened_by a.lent.floats.now a.w all a.b) s.ensures
 
 pub returns : goal.returns
 unfolding widened_by
 returns c =
     let a = c.args in
-    let all = betweens_in a.words.now a.floats.now a.h a.betweens in
+    let all = betweens_in a.lent.words.now a.lent.floats.now a.lent.header a.betweens in
     let s = c.station_at-s in
-    ap (λ (k : Bool). pick k (widened_in a.floats.now a.w a.b s.result) a.b) (sym c.if-is_kept.false ∙ c.is_kept.ensures)
-    ∙ ap (widened_by a.floats.now a.w all a.b) s.ensures
+    ap (λ (k : Bool). pick k (widened_in a.lent.floats.now a.w a.b s.result) a.b) (sym c.if-is_kept.false ∙ c.is_kept.ensures)
+    ∙ ap (widened_by a.lent.floats.now a.w all a.b) s.ensures

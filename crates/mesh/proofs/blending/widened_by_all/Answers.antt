@@ -1,6 +1,5 @@
 -- The first k in-betweens are done.
 use mathlib.Core.Path.{refl, sym, ap, ◌∙◌}
-use Prim.Native.Nat.{◌-◌}
 use native.Mathlib.Omega.{arith}
 use lib.Seq.{take_all}
 use Rattle.model.specs.Lists.{foldl}
@@ -17,9 +16,9 @@ pub loop-k-preserved : goal.loop-k-preserved
 loop-k-preserved c =
     let a = c.args in
     let l = c.loop-k in
-    let f = widened_by a.floats.now a.w (betweens_in a.words.now a.floats.now a.h a.betweens) in
-    let at = station_at a.words.now a.floats.now a.h a.betweens in
-    let list = stations_in a.words.now a.floats.now a.h a.betweens in
+    let f = widened_by a.lent.floats.now a.w (betweens_in a.lent.words.now a.lent.floats.now a.lent.header a.betweens) in
+    let at = station_at a.lent.words.now a.lent.floats.now a.lent.header a.betweens in
+    let list = stations_in a.lent.words.now a.lent.floats.now a.lent.header a.betweens in
     let n = length-tabulate a.betweens.count at in (
       omega arith,
       c.widened_at-b.ensures
@@ -31,7 +30,7 @@ pub returns : goal.returns
 returns c =
     let a = c.args in
     let l = c.loop-k in
-    let f = widened_by a.floats.now a.w (betweens_in a.words.now a.floats.now a.h a.betweens) in
-    let at = station_at a.words.now a.floats.now a.h a.betweens in
+    let f = widened_by a.lent.floats.now a.w (betweens_in a.lent.words.now a.lent.floats.now a.lent.header a.betweens) in
+    let at = station_at a.lent.words.now a.lent.floats.now a.lent.header a.betweens in
     let n = length-tabulate a.betweens.count at in
-    l.invariant.1 ∙ ap (foldl f a.start) (take_all l.k (stations_in a.words.now a.floats.now a.h a.betweens) (omega arith))
+    l.invariant.1 ∙ ap (foldl f a.start) (take_all l.k (stations_in a.lent.words.now a.lent.floats.now a.lent.header a.betweens) (omega arith))

@@ -1,5 +1,5 @@
 use mathlib.Core.Path.{◌≡◌}
-use Prim.Native.Nat.{◌-◌, ◌≤◌}
+use Prim.Native.Nat.{◌≤◌}
 use lib.ListN.{take}
 use Rattle.model.specs.Lists.{foldl}
 use Rattle.deltas.specs.Betweens.{betweens_in}
@@ -8,4 +8,4 @@ use Rattle.mesh.proofs.blending.widened_by_all.Given as goal
 
 abbrev pub invariant-loop-k : goal.invariant-loop-k
 invariant-loop-k l =
-    (l.k ≤ l.betweens.count) × (l.b ≡ foldl (widened_by l.floats l.w (betweens_in l.words l.floats l.h l.betweens)) l.initial.b (take l.k (stations_in l.words l.floats l.h l.betweens)))
+    (l.k ≤ l.betweens.count) × (l.b ≡ foldl (widened_by l.lent.floats.now l.w (betweens_in l.lent.words.now l.lent.floats.now l.lent.header l.betweens)) l.initial.b (take l.k (stations_in l.lent.words.now l.lent.floats.now l.lent.header l.betweens)))

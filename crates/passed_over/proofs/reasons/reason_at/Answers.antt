@@ -49,8 +49,8 @@ gift_at-requires c =
     let a = c.args in
     (c.requires.0, c.requires.1, in-line a.floats.now a.row a.n c.requires.2 c.if-n-row.false)
 
-pub returns-then-is_something : goal.returns-then-is_something
-returns-then-is_something c =
+pub returns-then-is_some : goal.returns-then-is_some
+returns-then-is_some c =
     let a = c.args in
     let t = channel_in a.floats.now a.row in
     let past : leb a.n t.target ≡ false = lt-leb a.n t.target c.if-n-row.false in
@@ -59,10 +59,10 @@ returns-then-is_something c =
     let fit : fits t.property t.kind ≡ c.fits.result
     = fit-told a.floats.now a.row _ c.track_of-track.ensures c.property_of.result c.property_of.ensures _
     c.fits.ensures in
-    let value : is_some (value_given a.time t) ≡ c.is_something.result
-    = something-given _ _ _ _ c.gift_at.ensures ∙ sym c.is_something.ensures in
+    let value : is_some (value_given a.time t) ≡ c.is_some.result
+    = something-given _ _ _ _ c.gift_at.ensures ∙ sym c.is_some.ensures in
     sym (by-tests a.time a.n t false true true true past (some-stride t _ stride c.if-track_stride-eq0.false)
-    (fit ∙ c.if-not-fits.false) (value ∙ c.if-is_something.true))
+    (fit ∙ c.if-not-fits.false) (value ∙ c.if-is_some.true))
 
 pub returns : goal.returns
 returns c =
@@ -74,7 +74,7 @@ returns c =
     let fit : fits t.property t.kind ≡ c.fits.result
     = fit-told a.floats.now a.row _ c.track_of-track.ensures c.property_of.result c.property_of.ensures _
     c.fits.ensures in
-    let value : is_some (value_given a.time t) ≡ c.is_something.result
-    = something-given _ _ _ _ c.gift_at.ensures ∙ sym c.is_something.ensures in
+    let value : is_some (value_given a.time t) ≡ c.is_some.result
+    = something-given _ _ _ _ c.gift_at.ensures ∙ sym c.is_some.ensures in
     sym (by-tests a.time a.n t false true true false past (some-stride t _ stride c.if-track_stride-eq0.false)
-    (fit ∙ c.if-not-fits.false) (value ∙ c.if-is_something.false))
+    (fit ∙ c.if-not-fits.false) (value ∙ c.if-is_some.false))

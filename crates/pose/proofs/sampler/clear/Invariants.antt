@@ -1,5 +1,5 @@
 use mathlib.Core.Path.{◌≡◌}
-use Prim.Native.Nat.{◌-◌, ◌≤◌}
+use Prim.Native.Nat.{◌≤◌}
 use lib.ListN.{length}
 use Rattle.pose.specs.Encoded.{cleared_words, cleared_floats}
 use Rattle.pose.proofs.sampler.clear.Given as goal

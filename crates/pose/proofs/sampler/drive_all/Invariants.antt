@@ -1,5 +1,5 @@
 use mathlib.Core.Path.{◌≡◌}
-use Prim.Native.Nat.{◌-◌, ◌≤◌}
+use Prim.Native.Nat.{◌≤◌}
 use lib.ListN.{length}
 use Rattle.model.specs.Lists.{tabulate}
 use Rattle.tables.specs.Records.{channel_row}
@@ -9,6 +9,8 @@ use Rattle.pose.proofs.sampler.drive_all.Given as goal
 
 abbrev pub invariant-loop-k : goal.invariant-loop-k
 invariant-loop-k l =
-    (l.count ≡ l.channels.count) × (l.k ≤ l.count) × (length l.marks ≡ length l.initial.marks) × (length l.slots ≡ length l.initial.slots)
-    × (l.marks ≡ encoded_words l.time l.n (tabulate l.k (λ i. channel_in l.floats (channel_row l.words l.channels i))) l.initial.marks)
-    × (l.slots ≡ encoded_floats l.time l.n (tabulate l.k (λ i. channel_in l.floats (channel_row l.words l.channels i))) l.initial.slots)
+    let h = l.lent.header in
+    let ts = tabulate l.k (λ i. channel_in l.lent.floats.now (channel_row l.lent.words.now h.channels i)) in
+    (l.k ≤ h.channels.count) × (length l.marks ≡ length l.initial.marks) × (length l.slots ≡ length l.initial.slots)
+    × (l.marks ≡ encoded_words l.time h.graph.nodes.count ts l.initial.marks)
+    × (l.slots ≡ encoded_floats l.time h.graph.nodes.count ts l.initial.slots)

@@ -1,5 +1,6 @@
 use mathlib.Core.Path.{refl, sym, subst}
 use mathlib.Core.Option.{some}
+use Rattle.std.proofs.Common.{Some}
 use Rattle.model.specs.Scene.{rotation, morph_weights, vec3s}
 use Rattle.model.specs.Pose.{given}
 use Rattle.scene.specs.Values.{vec3}
@@ -12,7 +13,7 @@ use Rattle.pose_slots.proofs.gifts.of_vec3.Goals as goal
 
 pub returns-in-Translation : goal.returns-in-Translation
 unfolding given
-returns-in-Translation c = subst (λ (x : Property). Gives (gift.Translation c.args.v) (property_of x) vec3s (some (vec3 c.args.v))) (sym c.in-Translation.is) (translated c.args.v)
+returns-in-Translation c = subst (λ (x : Property). Gives (Some (gift.Translation c.args.v)) (property_of x) vec3s (some (vec3 c.args.v))) (sym c.in-Translation.is) (translated c.args.v)
 
 pub returns-in-Rotation : goal.returns-in-Rotation
 unfolding given
@@ -20,7 +21,7 @@ returns-in-Rotation c = subst (λ (x : Property). Gives _ (property_of x) vec3s 
 
 pub returns-in-Scale : goal.returns-in-Scale
 unfolding given
-returns-in-Scale c = subst (λ (x : Property). Gives (gift.Scale c.args.v) (property_of x) vec3s (some (vec3 c.args.v))) (sym c.in-Scale.is) (scaled c.args.v)
+returns-in-Scale c = subst (λ (x : Property). Gives (Some (gift.Scale c.args.v)) (property_of x) vec3s (some (vec3 c.args.v))) (sym c.in-Scale.is) (scaled c.args.v)
 
 pub returns-in-MorphWeights : goal.returns-in-MorphWeights
 unfolding given

@@ -8,6 +8,6 @@ use Rattle.pose_slots.proofs.slots.store_pose.Goals as goal
 pub returns : goal.returns
 returns c =
     let a = c.args in (
-      c.put_words.ensures ∙ ap (λ (v : List ℕ). paste a.marks.now (a.i * 4) v 4) c.words_of.ensures,
-      c.put_floats.ensures ∙ ap (λ (v : List Float). paste a.slots.now (a.i * 10) v 10) c.floats_of.ensures,
+      c.put.ensures ∙ ap (λ (v : List ℕ). paste a.marks.now (a.i * 4) v 4) c.words_of.ensures,
+      c.put-2.ensures ∙ ap (λ (v : List Float). paste a.slots.now (a.i * 10) v 10) c.floats_of.ensures,
     )

@@ -10,6 +10,9 @@ pub closed-requires : goal.closed-requires
 closed-requires c = c.requires.1
 
 pub returns : goal.returns
-returns c =
-    form-put _ (kind-is _ c.requires.1).letters c.opened-s.ensures c.fields-f.ensures c.put_row.ensures
-    c.closed.ensures
+returns c = record {
+  same = c.fields-f.ensures.same;
+  read =
+      form-put _ (kind-is _ c.requires.1).letters c.opened-s.ensures c.fields-f.ensures.read c.put_row.ensures
+      c.closed.ensures;
+}

@@ -1,16 +1,11 @@
 use mathlib.Core.Path.{ap}
 use mathlib.Core.List.{◌∷◌}
 use Rattle.spelling.proofs.Pushing.{put-append}
-use Rattle.scene_schema.specs.declared.Name.{Name}
-use Rattle.scene_schema.specs.Numbers.{letters_of}
-use Rattle.scene_spelling.proofs.LetterLaws.{byte-place}
+use Rattle.scene_schema.specs.Numbers.{Named}
 use Rattle.scene_spelling.proofs.FieldLaws.{put_same}
 use Rattle.scene_spelling.proofs.fields.open_form.Goals as goal
 
-pub put_name-requires : goal.put_name-requires
-put_name-requires c = byte-place _ _ c.put-a.ensures
-
 pub returns : goal.returns
 returns c =
-    put_same _ (ap (λ (n : Name). 40 ∷ letters_of n) c.title.ensures)
-    (put-append _ _ _ c.put-a.ensures c.put_name.ensures)
+    put_same _ (ap (λ (n : Named). 40 ∷ n.letters) c.title-title.ensures)
+    (put-append _ _ _ c.put-a.ensures c.put_bytes.ensures)

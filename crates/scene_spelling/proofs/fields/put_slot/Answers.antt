@@ -9,7 +9,7 @@ pub returns-then-is_marked : goal.returns-then-is_marked
 returns-then-is_marked c =
     put-there c.args.g floats (out_at c.args.out.now c.args.at)
     (sym c.is_marked.ensures ∙ c.if-is_marked.true) (ap bits_of c.floats_in.ensures)
-    c.put_floats.ensures
+    c.put_items.ensures
 
 pub returns : goal.returns
 returns c = put-absent c.args.g floats _ _ (sym c.is_marked.ensures ∙ c.if-is_marked.false)

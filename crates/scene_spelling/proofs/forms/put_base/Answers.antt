@@ -11,7 +11,7 @@ pub returns-then-form-eq0 : goal.returns-then-form-eq0
 returns-then-form-eq0 c =
     let parts = eq-eqb _ _ c.if-form-eq0.true in
     put-append _ _ _
-    (put-there 16 floats _ parts (ap bits_of c.floats_in.ensures) c.put_floats.ensures)
+    (put-there 16 floats _ parts (ap bits_of c.floats_in.ensures) c.put_items.ensures)
     (put-absent 17 floats _ _ (ap not parts))
 
 pub returns : goal.returns
@@ -19,4 +19,4 @@ returns c =
     let matrix = ne_eqb _ _ c.if-form-eq0.false in
     put-append _ _ _
     (put-absent 16 floats _ _ matrix)
-    (put-there 17 floats _ (ap not matrix) (ap bits_of c.floats_in-2.ensures) c.put_floats-2.ensures)
+    (put-there 17 floats _ (ap not matrix) (ap bits_of c.floats_in-2.ensures) c.put_items-2.ensures)

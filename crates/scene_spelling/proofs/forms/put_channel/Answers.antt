@@ -21,6 +21,6 @@ returns c =
     (put-append _ _ _ c.open_form-a.ensures c.put_number-b.ensures)
     c.put_property-c.ensures)
     c.put_interpolation-d.ensures)
-    (put-there 40 floats _ refl (ap bits_of c.floats_in.ensures) c.put_floats-e.ensures))
+    (put-there 40 floats _ refl (ap bits_of c.floats_in.ensures) c.put_items-e.ensures))
     c.put_values-f.ensures)
     c.close_form.ensures)

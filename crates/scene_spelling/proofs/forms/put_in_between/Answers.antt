@@ -17,7 +17,7 @@ returns c =
     (put-append _ _ _
     (put-append _ _ _
     c.open_form-a.ensures
-    (put-there 96 floats _ refl (ap bits_of c.floats_in.ensures) c.put_floats-b.ensures))
+    (put-there 96 floats _ refl (ap bits_of c.floats_in.ensures) c.put_items-b.ensures))
     c.put_slot-c.ensures)
     c.put_slot-d.ensures)
     c.close_form.ensures)

@@ -21,5 +21,5 @@ returns c =
     (put-append _ _ _
     (put-append _ _ _
     (put-append _ _ _ c.open_form-a.ensures c.put_list-b.ensures)
-    (put-there 49 floats _ refl (ap bits_of c.floats_in.ensures) c.put_floats-c.ensures))
+    (put-there 49 floats _ refl (ap bits_of c.floats_in.ensures) c.put_items-c.ensures))
     c.close_form.ensures)

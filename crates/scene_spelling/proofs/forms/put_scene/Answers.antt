@@ -15,6 +15,6 @@ returns c =
     (put-append _ _ _
     (put-append _ _ _
     (put-append _ _ _ c.open_form-a.ensures c.put_number-b.ensures)
-    c.put_floats-c.ensures)
-    (put-there 2 numbers _ refl c.words_in.ensures c.put_numbers-d.ensures))
+    c.put_items-c.ensures)
+    (put-there 2 numbers _ refl c.words_in.ensures c.put_items-d.ensures))
     c.close_form.ensures)

@@ -16,6 +16,6 @@ returns c =
     (put-append _ _ _
     (put-append _ _ _
     c.open_form-a.ensures
-    (put-there 128 numbers _ refl c.words_in.ensures c.put_numbers-b.ensures))
-    (put-there 129 floats _ refl (ap bits_of c.floats_in.ensures) c.put_floats-c.ensures))
+    (put-there 128 numbers _ refl c.words_in.ensures c.put_items-b.ensures))
+    (put-there 129 floats _ refl (ap bits_of c.floats_in.ensures) c.put_items-c.ensures))
     c.close_form.ensures)

@@ -1,6 +1,6 @@
 -- The sum, with what is still to come, makes up all words.
 use mathlib.Core.Path.{◌≡◌, refl, sym, ap, ◌∙◌}
-use Prim.Native.Nat.{ℕ, ◌+◌, ◌-◌, ◌*◌, min}
+use Prim.Native.Nat.{ℕ, ◌+◌, ◌*◌, min}
 use native.Mathlib.Omega.{arith}
 use lib.ListN.{get_or, drop}
 use Rattle.scene_marks.specs.Marks.{stride_of}
@@ -18,7 +18,8 @@ loop-k-preserved c =
     let n = get_or counts k 0 in
     let step : c.more_words-sum.result ≡ min (sum + n * stride_of k) farthest
     = c.more_words-sum.ensures.0 ∙ ap (λ (s : ℕ). min (sum + n * s) farthest) c.stride.ensures in
-    let all = ap (λ (w : ℕ). min (sum + w) farthest) (sym (kind-words k counts (omega arith))) ∙ c.loop-k.invariant.0 in (
+    let all = ap (λ (w : ℕ). min (sum + w) farthest) (sym (kind-words k counts (omega arith)))
+    ∙ c.loop-k.invariant.0 in (
       stops sum (n * stride_of k) more c.more_words-sum.result (words_for c.args.ids counts) step all,
       (c.more_words-sum.ensures.1, omega arith),
     )

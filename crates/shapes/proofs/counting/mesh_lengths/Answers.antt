@@ -1,20 +1,12 @@
-use mathlib.Core.Path.{◌≡◌, sym, ap, ◌∙◌, subst}
-use mathlib.Core.Bool.{true}
-use Prim.Native.Nat.{◌-◌}
+use mathlib.Core.Path.{sym, ap, ◌∙◌, subst}
 use native.Mathlib.Omega.{arith}
-use Rattle.tables.specs.declared.PrimitiveRow.{PrimitiveRow}
-use Rattle.row_checks.specs.Bounds.{primitive_within}
 use Rattle.shapes.specs.declared.Lengths.{Lengths}
-use Rattle.shapes.specs.Rest.{row_lengths, plus_lengths, lengths_below, AtMost}
+use Rattle.shapes.specs.Rest.{row_lengths, plus_lengths, AtMost}
 use Rattle.shapes.proofs.Sums.{row-at-most, small, sums-small, next-sum, no-sum}
 use Rattle.shapes.proofs.counting.mesh_lengths.Goals as goal
 
 pub loop-k-init : goal.loop-k-init
 loop-k-init c = let a = c.args in (c.none-total.ensures ∙ no-sum a.words.now a.table a.part, omega arith)
-
-pub row_lengths-n-requires : goal.row_lengths-n-requires
-row_lengths-n-requires c =
-    subst (λ (r : PrimitiveRow). primitive_within r ≡ true) (sym c.primitive_at.ensures) (c.requires.within _ c.loop-k-test.true)
 
 pub plus-total-requires : goal.plus-total-requires
 plus-total-requires c =
@@ -32,10 +24,3 @@ loop-k-preserved c =
     let i = c.loop-k.invariant in
     let n = c.row_lengths-n.ensures ∙ ap row_lengths c.primitive_at.ensures in
     (c.plus-total.ensures ∙ (λ j. plus_lengths (i.0 j) (n j)) ∙ next-sum a.words.now a.table a.part _, omega (arith, c.loop-k-test.true))
-
-pub returns : goal.returns
-returns c =
-    let a = c.args in
-    let i = c.loop-k.invariant in
-    let e : c.loop-k.k ≡ a.part.count = omega (arith, i.1, c.loop-k-test.false) in
-    i.0 ∙ ap (lengths_below a.words.now a.table a.part) e

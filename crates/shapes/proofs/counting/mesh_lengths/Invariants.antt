@@ -1,5 +1,5 @@
 use mathlib.Core.Path.{◌≡◌}
-use Prim.Native.Nat.{◌-◌, ◌≤◌}
+use Prim.Native.Nat.{◌≤◌}
 use Rattle.shapes.specs.Rest.{lengths_below}
 use Rattle.shapes.proofs.counting.mesh_lengths.Given as goal
 

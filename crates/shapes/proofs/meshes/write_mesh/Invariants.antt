@@ -1,5 +1,5 @@
 use mathlib.Core.List.{[]}
-use Prim.Native.Nat.{◌-◌}
+use Rattle.borrowed.specs.Attributes.{SameSlices}
 use Rattle.checks.specs.Drawn.{lent_as}
 use Rattle.shapes.specs.Rest.{palette_in}
 use Rattle.shapes.proofs.Going.{Going}
@@ -7,4 +7,6 @@ use Rattle.shapes.proofs.meshes.write_mesh.Given as goal
 
 abbrev pub invariant-loop-k : goal.invariant-loop-k
 invariant-loop-k l =
-    Going (lent_as l.words l.floats [] [] l.h) l.part l.weights l.world.m (palette_in l.has_palette l.palette) l.initial.positions l.initial.normals l.initial.tangents l.k l.at l.positions l.normals l.tangents
+    let first = l.initial.out in
+    SameSlices first l.out
+    × Going (lent_as l.lent.words.now l.lent.floats.now [] [] l.lent.header) l.part l.weights l.world.m (palette_in l.palette) first.positions.now first.normals.now first.tangents.now l.k l.at l.out.positions.now l.out.normals.now l.out.tangents.now

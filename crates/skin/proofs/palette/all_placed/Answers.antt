@@ -1,5 +1,4 @@
 use mathlib.Core.Path.{refl, sym, ◌∙◌}
-use Prim.Native.Nat.{◌-◌}
 use native.Mathlib.Omega.{arith}
 use Rattle.skin_roots.proofs.Every.{one-fails, one_passes, all_pass}
 use Rattle.skin.specs.Palette.{has_world}

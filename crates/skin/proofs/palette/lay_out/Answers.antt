@@ -6,34 +6,20 @@ use native.Mathlib.Omega.{arith}
 use lib.ListN.{drop}
 use Rattle.model.specs.Lists.{or_else}
 use Rattle.model.specs.Matrix.{Matrix}
-use Rattle.model.specs.Skin.{palette_of}
 use Rattle.model.proofs.RowLaws.{flat}
-use Rattle.worlds.specs.Slots.{world_in}
-use Rattle.skin.specs.Palette.{skeleton_in, palette_in, laid_out}
+use Rattle.skin.specs.Palette.{palette_in, laid_out}
 use Rattle.skin.proofs.Palettes.{no-palette, palette-is}
 use Rattle.skin.proofs.Rows.{laid, no_room, none-laid, palette-length}
-use Rattle.skin.proofs.palette.lay_out.Lts
-use Rattle.skin.proofs.palette.lay_out.Reads
-use Rattle.skin.proofs.palette.lay_out.Tie
 use Rattle.skin.proofs.palette.lay_out.Goals as goal
 
-abbrev Start : Type 0
-Start = Lts.Start Tie.the-claims Reads.Pre Reads.Post
-
-palette : Start → Option (List Matrix)
-palette s = palette_of (world_in s.args.n s.args.places.now s.args.worlds.now) (skeleton_in s.args.joints.now s.args.binds.now)
-
 pub returns-then-not-is_whole : goal.returns-then-not-is_whole
-unfolding palette
 returns-then-not-is_whole c =
-    let s = c.before.before.before.before.before.before.before.before in
-    let a = s.args in
+    let a = c.args in
     let w = c.is_whole in
     none-laid a.out.now
-    ∙ ap (λ (p : Option (List Matrix)). laid_out (or_else p []) a.out.now) (sym (no-palette (palette s) (sym (w.ensures a.worlds.now) ∙ c.if-not-is_whole.true)))
+    ∙ ap (λ (p : Option (List Matrix)). laid_out (or_else p []) a.out.now) (sym (no-palette _ (sym (w.ensures a.worlds.now) ∙ c.if-not-is_whole.true)))
 
 pub returns-then-out-joints : goal.returns-then-out-joints
-unfolding palette
 returns-then-out-joints c =
     let a = c.args in
     let w = c.is_whole in
@@ -42,7 +28,6 @@ returns-then-out-joints c =
     ∙ ap (λ (p : Option (List Matrix)). laid_out (or_else p []) a.out.now) (sym p)
 
 pub returns : goal.returns
-unfolding palette
 returns c =
     let a = c.args in
     let w = c.is_whole in

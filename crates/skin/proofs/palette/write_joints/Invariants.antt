@@ -1,5 +1,4 @@
 use mathlib.Core.Path.{◌≡◌}
-use Prim.Native.Nat.{◌-◌}
 use lib.ListN.{length}
 use Rattle.skin.specs.Palette.{palette_in}
 use Rattle.skin.proofs.Rows.{Written}

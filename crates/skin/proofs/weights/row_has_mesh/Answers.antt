@@ -6,7 +6,7 @@ use Rattle.skin.proofs.weights.row_has_mesh.Goals as goal
 pub returns-then-is_marked : goal.returns-then-is_marked
 returns-then-is_marked c =
     let n = c.args.h.meshes.meshes.count in
-    λ j. (sym c.if-is_marked.true ∙ c.is_marked.ensures) j && ltb (c.wide.ensures.0 j) n
+    λ j. (sym c.if-is_marked.true ∙ c.is_marked.ensures) j && ltb c.args.row.mesh.id n
 
 pub returns : goal.returns
 returns c =

@@ -1,5 +1,5 @@
 use mathlib.Core.Path.{◌≡◌}
-use Prim.Native.Nat.{◌-◌, ◌≤◌}
+use Prim.Native.Nat.{◌≤◌}
 use lib.ListN.{length}
 use Rattle.skin_roots.specs.Lines.{Leading}
 use Rattle.skin_roots.proofs.lines.count_lines.Given as goal

@@ -1,5 +1,4 @@
 use mathlib.Core.Path.{refl}
-use Prim.Native.Nat.{◌-◌}
 use native.Mathlib.Omega.{arith}
 use borrow.Author.Tests.{lt-ltb, le-ltb}
 use lib.Dec.{ltb}
@@ -10,12 +9,12 @@ use Rattle.skin_roots.proofs.roots.all_nodes.Goals as goal
 pub loop-i-init : goal.loop-i-init
 loop-i-init c = (omega arith, refl)
 
-pub returns-then-n-wide : goal.returns-then-n-wide
-returns-then-n-wide c =
+pub returns-then-n-joints : goal.returns-then-n-joints
+returns-then-n-joints c =
     let a = c.args in
     let l = c.loop-i in
     one-fails (λ j. ltb j a.n) a.joints.now l.i c.loop-i-test.true l.invariant.1
-    (le-ltb (get_or a.joints.now l.i 0) a.n (omega (arith, c.if-n-wide.true, c.wide.ensures.0)))
+    (le-ltb (get_or a.joints.now l.i 0) a.n (omega (arith, c.if-n-joints.true)))
 
 pub loop-i-preserved : goal.loop-i-preserved
 loop-i-preserved c =
@@ -23,7 +22,7 @@ loop-i-preserved c =
     let l = c.loop-i in (
       omega arith,
       one_passes (λ j. ltb j a.n) a.joints.now l.i c.loop-i-test.true l.invariant.1
-          (lt-ltb (get_or a.joints.now l.i 0) a.n (omega (arith, c.if-n-wide.false, c.wide.ensures.0))),
+          (lt-ltb (get_or a.joints.now l.i 0) a.n (omega (arith, c.if-n-joints.false))),
     )
 
 pub returns : goal.returns

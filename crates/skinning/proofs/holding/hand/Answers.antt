@@ -5,11 +5,6 @@ use Rattle.vertex_rows.specs.Rows.{flipped, row_changed}
 use Rattle.vertex_rows.proofs.RowSteps.{row_kept}
 use Rattle.skinning.proofs.holding.hand.Goals as goal
 
-pub returns-then-mirror : goal.returns-then-mirror
-returns-then-mirror c =
-    let a = c.args in
-    c.flip_tangent.ensures ∙ sym (ap (λ (b : Bool). row_changed 4 (λ x. pick b (flipped x) x) a.v a.tangents.now) c.if-mirror.true)
-
 pub returns-else-mirror : goal.returns-else-mirror
 returns-else-mirror c =
     let a = c.args in

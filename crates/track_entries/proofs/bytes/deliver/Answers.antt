@@ -6,21 +6,21 @@ use Rattle.track_entries.proofs.Delivering.{wrote-vec3, wrote-quat}
 use Rattle.track_entries.proofs.Delivering.{weights-inside, wrote-weights}
 use Rattle.track_entries.proofs.bytes.deliver.Goals as goal
 
-pub slice_bounds-write_floats-end-in-Scalar : goal.slice_bounds-write_floats-end-in-Scalar
-slice_bounds-write_floats-end-in-Scalar c =
+pub slice_bounds-write-end-in-Scalar : goal.slice_bounds-write-end-in-Scalar
+slice_bounds-write-end-in-Scalar c =
     sym (length-take-le _ _ (weights-inside _ _ _ (ap Ok c.in-Scalar.is) c.requires.0))
 
 pub returns-in-Vec3 : goal.returns-in-Vec3
 returns-in-Vec3 c =
     wrote-vec3 _ _ _ _ _ _ _ (ap Ok c.in-Vec3.is) (search rules)
-    c.write_floats.ensures
+    c.write.ensures
 
 pub returns-in-Quat : goal.returns-in-Quat
 returns-in-Quat c =
     wrote-quat _ _ _ _ _ _ _ (ap Ok c.in-Quat.is) (search rules)
-    c.write_floats-in-Quat.ensures
+    c.write-in-Quat.ensures
 
 pub returns-in-Scalar : goal.returns-in-Scalar
 returns-in-Scalar c =
     wrote-weights _ _ _ _ _ _ _ (ap Ok c.in-Scalar.is)
-    c.requires c.write_floats-count.ensures
+    c.requires c.write-count.ensures

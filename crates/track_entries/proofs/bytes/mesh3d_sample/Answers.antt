@@ -8,7 +8,7 @@ pub slice_bounds-sample_over-end : goal.slice_bounds-sample_over-end
 slice_bounds-sample_over-end c = sym (length-take-le _ _ (search rules))
 
 pub sample_over-requires : goal.sample_over-requires
-sample_over-requires c = length-take-le _ _ (search rules) ∙ c.least-most.ensures
+sample_over-requires c = length-take-le _ _ (search rules) ∙ c.min-most.ensures
 
 pub returns-then-is_unnamed : goal.returns-then-is_unnamed
 returns-then-is_unnamed c =

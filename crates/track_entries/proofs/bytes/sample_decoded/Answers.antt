@@ -14,8 +14,8 @@ pub returns : goal.returns
 returns c =
     let a = c.args in (
       sampled-of _ _ a.t a.time a.weights.now _
-          (read_all (of_bits binary32) _ _ _ _ c.read_floats-n.ensures c.requires)
+          (read_all (of_bits binary32) _ _ _ _ c.read-n.ensures c.requires)
           c.sample.ensures,
-      all_read _ _ _ _ c.read_floats-n.ensures
+      all_read _ _ _ _ c.read-n.ensures
           (omega (arith, c.requires, count (of_bits binary32) a.table.now)),
     )

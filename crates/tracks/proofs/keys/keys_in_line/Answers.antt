@@ -1,4 +1,3 @@
-use Prim.Native.Nat.{◌-◌}
 use borrow.Author.Rules.{rules}
 use Rattle.tracks.proofs.Ascent.{no_key, first_key, next-key, last-key}
 use Rattle.tracks.proofs.keys.keys_in_line.Goals as goal

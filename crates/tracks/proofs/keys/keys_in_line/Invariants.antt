@@ -1,5 +1,3 @@
-use Prim.Native.Nat.{◌-◌}
-use lib.ListN.{length}
 use Rattle.tracks.proofs.Ascent.{Tested}
 use Rattle.tracks.proofs.keys.keys_in_line.Given as goal
 

@@ -1,4 +1,4 @@
-use mathlib.Core.Path.{◌≡◌, refl, sym, ap, ◌∙◌}
+use mathlib.Core.Path.{refl, sym, ap, ◌∙◌}
 use Prim.Native.Nat.{◌+◌}
 use native.Mathlib.Omega.{arith}
 use lib.ListN.{length}
@@ -7,16 +7,13 @@ use Rattle.model.specs.Vector.{Vector, norm}
 use Rattle.vertex_rows.specs.Rows.{row_changed}
 use Rattle.transform.specs.Blocks.{unit_over, rows_from}
 use Rattle.transform.proofs.Packing.{number_at}
-use Rattle.transform.proofs.Blocked.{in_block, row_number, has-row, next-from}
+use Rattle.transform.proofs.Blocked.{in_block, has-row, next-from}
 use borrow.Author.Rules.{rules}
 use Rattle.transform.proofs.blocks.put_each.Goals as goal
 
 pub loop-i-init : goal.loop-i-init
 unfolding rows_from
 loop-i-init c = (search rules, refl, search rules, refl)
-
-pub overflow_add-k : goal.overflow_add-k
-overflow_add-k c = let l = c.loop-i in omega (arith, row_number c.args.w (c.args.k + l.i) c.requires.0, in_block c.args.w c.args.k l.i (length c.args.s.now) (omega arith) c.requires.1)
 
 pub put_unit-requires : goal.put_unit-requires
 put_unit-requires c =
@@ -35,10 +32,3 @@ loop-i-preserved c =
       l.invariant.2,
       next-from a.w (λ j. unit_over (row 3 a.d.now j)) a.k a.s.now l.s _ l.i (c.put_unit.ensures ∙ ap (λ (v : Vector). row_changed a.w (unit_over v) (a.k + l.i) l.s) c.load3-v.ensures) l.invariant.3,
     )
-
-pub returns : goal.returns
-returns c =
-    let a = c.args in
-    let l = c.loop-i in
-    let e : l.i ≡ 16 = omega (arith, c.loop-i-test.false) in
-    l.invariant.3 ∙ ap (rows_from a.w (λ j. unit_over (row 3 a.d.now j)) a.k a.s.now) e

@@ -1,20 +1,9 @@
 use mathlib.Core.Path.{ap, ◌∙◌}
-use native.Mathlib.Omega.{arith}
 use Rattle.model.specs.Matrix.{turned}
-use Rattle.model.proofs.Rowwise.{row_ends}
 use Rattle.scene.specs.Values.{vec3, mat3}
 use Rattle.transform.specs.Blocks.{xyz_turned, unit_over}
 use Rattle.transform.proofs.Blocked.{row-alike, unit-turned}
 use Rattle.transform.proofs.blocks.turn_row.Goals as goal
-
-pub overflow_mul-k : goal.overflow_mul-k
-overflow_mul-k c = omega (arith, row_ends c.args.w c.args.s.now c.args.k c.requires.1)
-
-pub load3-requires : goal.load3-requires
-load3-requires c = omega (arith, row_ends c.args.w c.args.s.now c.args.k c.requires.1)
-
-pub put_unit-requires : goal.put_unit-requires
-put_unit-requires c = (c.requires.0, c.requires.1, c.vec3_len.ensures)
 
 pub returns : goal.returns
 returns c =

@@ -1,4 +1,4 @@
-use mathlib.Core.Path.{refl, sym, ◌∙◌}
+use mathlib.Core.Path.{sym, ◌∙◌}
 use native.Mathlib.Omega.{arith}
 use lib.Ieee.{nan}
 use Rattle.model.specs.Vector.{dot}
@@ -7,9 +7,6 @@ use Rattle.transform.specs.Blocks.{squares_of}
 use Rattle.transform.proofs.Packing.{squares-count, square-at}
 use borrow.Author.Rules.{rules}
 use Rattle.transform.proofs.packed.squares.Goals as goal
-
-pub loop-i-init : goal.loop-i-init
-loop-i-init c = (search rules, search rules, refl)
 
 pub loop-i-preserved : goal.loop-i-preserved
 loop-i-preserved c =

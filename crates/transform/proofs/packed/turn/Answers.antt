@@ -3,13 +3,9 @@ use native.Mathlib.Omega.{arith}
 use lib.ListN.{take}
 use Rattle.model.specs.Matrix.{turned}
 use Rattle.scene.specs.Values.{vec3, mat3}
-use Rattle.transform.proofs.Packing.{packed_none, measured-more, measured-all, rest-after}
-use borrow.Author.Count.{below_none}
+use Rattle.transform.proofs.Packing.{measured-more, measured-all, rest-after}
 use borrow.Author.Rules.{rules}
 use Rattle.transform.proofs.packed.turn.Goals as goal
-
-pub loop-i-init : goal.loop-i-init
-loop-i-init c = (search rules, refl, (search rules, packed_none _ _, below_none _))
 
 pub loop-i-preserved : goal.loop-i-preserved
 loop-i-preserved c =

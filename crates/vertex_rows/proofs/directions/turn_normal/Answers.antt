@@ -1,9 +1,6 @@
 use borrow.Author.Rules.{rules}
-use Rattle.vertex_rows.proofs.Turned.{normal-turned, normal-left}
+use Rattle.vertex_rows.proofs.Turned.{normal-left}
 use Rattle.vertex_rows.proofs.directions.turn_normal.Goals as goal
-
-pub returns-in-Some : goal.returns-in-Some
-returns-in-Some c = search (rules, normal-turned)
 
 pub returns-in_default : goal.returns-in_default
 returns-in_default c = search (rules, normal-left)

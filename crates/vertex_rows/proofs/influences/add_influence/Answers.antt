@@ -1,13 +1,7 @@
 use mathlib.Core.Path.{sym, ◌∙◌}
 use native.Mathlib.Omega.{arith}
-use Rattle.model.proofs.Rowwise.{row_ends}
 use Rattle.vertex_rows.proofs.Blended.{counts-in, past-palette, no-weight}
 use Rattle.vertex_rows.proofs.influences.add_influence.Goals as goal
-
-pub matrix_at-requires : goal.matrix_at-requires
-matrix_at-requires c =
-    let a = c.args in
-    row_ends 16 a.palette.now a.j (omega arith)
 
 pub returns-then-counts : goal.returns-then-counts
 returns-then-counts c =

@@ -1,8 +1,8 @@
-use mathlib.Core.Path.{◌≡◌, refl, ap, ◌∙◌}
+use mathlib.Core.Path.{refl}
 use native.Mathlib.Omega.{arith}
 use Rattle.model.specs.Lists.{rows_in}
-use Rattle.model.specs.Vertices.{influences, mixture}
-use Rattle.vertex_rows.proofs.Blended.{next-influence, all-four}
+use Rattle.model.specs.Vertices.{influences}
+use Rattle.vertex_rows.proofs.Blended.{next-influence}
 use Rattle.vertex_rows.proofs.influences.blend_row.Goals as goal
 
 pub loop-e-init : goal.loop-e-init
@@ -14,12 +14,5 @@ loop-e-preserved c =
     let a = c.args in
     let l = c.loop-e in (
       omega arith,
-      next-influence (rows_in 16 a.palette.now) a.joints.now a.weights.now a.v c.requires.0 c.requires.1 l.e _ l.sum _ (omega arith) l.invariant.1 c.wide.ensures.0 c.add_influence-sum.ensures,
+      next-influence (rows_in 16 a.by.palette.now) a.by.joints.now a.by.weights.now a.v c.requires.0 c.requires.1 l.e _ l.sum _ (omega arith) l.invariant.1 refl c.add_influence-sum.ensures,
     )
-
-pub returns : goal.returns
-returns c =
-    let a = c.args in
-    let l = c.loop-e in
-    let e : l.e ≡ 4 = omega (arith, c.loop-e-test.false) in
-    l.invariant.1 ∙ ap mixture (all-four (rows_in 16 a.palette.now) a.joints.now a.weights.now a.v c.requires.0 c.requires.1 l.e e)

@@ -5,6 +5,7 @@ use Rattle.tracks.specs.declared.Track.{Track}
 use Rattle.tracks.specs.Values.{kind_of}
 use Rattle.row_checks.specs.Places.{fits_in}
 use Rattle.word_checks.proofs.Firsts.{before-all, before-over, before-leaves, none_left}
+use Rattle.refusals.specs.Drawn.{number_of}
 use Rattle.word_checks.specs.Words.{frames_within, channel_asked}
 use Rattle.word_checks.proofs.records.channel_word.Goals as goal
 
@@ -13,7 +14,7 @@ unfolding channel_asked
 returns c =
     let a = c.args in
     let track = c.track_of-track.ensures in
-    let none = none_left a.n _ _ c.nothing.ensures in
+    let none = none_left (number_of a.n) _ in
     let within = c.frames_within.ensures ∙ ap frames_within track in
     let frames = before-over _ _ _ _ _ none _ _ _ within c.over_word-from_frames.ensures in
     let wide = c.width.ensures.0 ∙ ap (λ (t : Track). width (kind_of t.kind)) track in

@@ -22,20 +22,20 @@ by-tests : (t : Track) (a b : Bool) → ltb key_limit t.keys.count ≡ a → is_
 unfolding frames_within
 by-tests t a b p q = λ j. pick (p j) true (pick (q j) (leb (stride_of t) weight_limit) true)
 
-pub returns-then-keys-gt-KEY_LIMIT : goal.returns-then-keys-gt-KEY_LIMIT
-returns-then-keys-gt-KEY_LIMIT c =
+pub returns-then-t-gt-KEY_LIMIT : goal.returns-then-t-gt-KEY_LIMIT
+returns-then-t-gt-KEY_LIMIT c =
     let t = c.args.t in
-    sym (by-tests t _ _ (lt-ltb key_limit t.keys.count c.if-keys-gt-KEY_LIMIT.true) refl)
+    sym (by-tests t _ _ (lt-ltb key_limit t.keys.count c.if-t-gt-KEY_LIMIT.true) refl)
 
 pub returns-then-is_scalar : goal.returns-then-is_scalar
 returns-then-is_scalar c =
     let t = c.args.t in
     let scalar = sym c.is_scalar.ensures ∙ c.if-is_scalar.true in
     ap (λ (n : ℕ). leb n weight_limit) c.track_stride.ensures
-    ∙ sym (by-tests t _ _ (le-ltb key_limit t.keys.count c.if-keys-gt-KEY_LIMIT.false) scalar)
+    ∙ sym (by-tests t _ _ (le-ltb key_limit t.keys.count c.if-t-gt-KEY_LIMIT.false) scalar)
 
 pub returns : goal.returns
 returns c =
     let t = c.args.t in
     let scalar = sym c.is_scalar.ensures ∙ c.if-is_scalar.false in
-    sym (by-tests t _ _ (le-ltb key_limit t.keys.count c.if-keys-gt-KEY_LIMIT.false) scalar)
+    sym (by-tests t _ _ (le-ltb key_limit t.keys.count c.if-t-gt-KEY_LIMIT.false) scalar)

@@ -5,4 +5,4 @@ use Rattle.word_checks.proofs.records.skin_word.Goals as goal
 
 pub returns : goal.returns
 unfolding skin_asked
-returns c = before-over _ _ _ _ _ (none_left _ _ _ c.nothing.ensures) _ _ _ refl c.over_word.ensures
+returns c = before-over _ _ _ _ _ (none_left _ _) _ _ _ refl c.over_word.ensures

@@ -7,4 +7,4 @@ pub returns : goal.returns
 returns c =
     let a = c.args in
     c.is_short_for.ensures
-    ∙ ap (λ (n : ℕ). short_for n a.graph a.walk a.poses a.worlds) c.child_entries.ensures
+    ∙ ap (λ (n : ℕ). short_for n a.graph a.space.walk a.space.poses a.space.worlds) c.child_entries.ensures

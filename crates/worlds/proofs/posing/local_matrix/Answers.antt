@@ -11,6 +11,6 @@ pub returns : goal.returns
 unfolding local_in
 returns c =
     let a = c.args in
-    let base = c.base_of-base.ensures ∙ ap (base_of a.floats.now) c.node_row.ensures in
+    let base = c.base_of-base.ensures ∙ ap (base_of a.lent.floats.now) c.node_row.ensures in
     let pose = ap pose_of c.pose_at.ensures ∙ slot-pose a.marks.now a.slots.now a.i in
     c.to_matrix.ensures ∙ ap to_matrix (c.local_transform.ensures ∙ (λ j. local_transform (pose j) (base j)))

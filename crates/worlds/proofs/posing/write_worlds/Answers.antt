@@ -1,14 +1,10 @@
 use mathlib.Core.Path.{ap, ◌∙◌}
-use mathlib.Core.List.{List}
-use lib.Ieee.{Float}
-use Rattle.model.specs.Lists.{foldl}
-use Rattle.worlds.specs.Slots.{placed_in}
-use Rattle.worlds.specs.Posed.{local_in}
+use Rattle.tables.specs.Decoded.{lent_of}
+use Rattle.worlds.specs.Posed.{placed_in_order}
 use Rattle.worlds.proofs.posing.write_worlds.Goals as goal
 
-pub returns : goal.returns
-returns c =
+pub returns-clause-worlds_alone : goal.returns-clause-worlds_alone
+returns-clause-worlds_alone c =
     let a = c.args in
-    let local = local_in a.words.now a.floats.now a.nodes a.marks.now a.slots.now in
-    c.place_worlds.ensures
-    ∙ ap (λ (w : List Float). foldl (placed_in local a.places.now) w a.order.now) (c.fill.ensures.after (λ _ e. e))
+    let w = c.place_worlds.ensures.worlds_alone in
+    (w.0, w.1, w.2 ∙ ap (placed_in_order (lent_of a.lent) a.marks.now a.slots.now a.room.now.places.now a.order.now) c.clear.ensures)

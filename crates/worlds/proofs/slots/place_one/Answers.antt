@@ -9,4 +9,4 @@ pub returns : goal.returns
 returns c =
     let lent = c.args.worlds.now in
     c.store.ensures.slice
-    ∙ (λ j. let at = c.wide.ensures.0 j * 16 in pick (fits_at lent at) (paste lent at (c.world_at-world.ensures j) 16) lent)
+    ∙ (λ j. let at = c.args.i * 16 in pick (fits_at lent at) (paste lent at (c.world_at-world.ensures j) 16) lent)

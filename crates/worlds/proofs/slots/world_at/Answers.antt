@@ -1,6 +1,6 @@
 use mathlib.Core.Path.{sym, ap, ◌∙◌}
 use mathlib.Core.Bool.{Bool}
-use Prim.Native.Nat.{ℕ, ◌-◌, ◌*◌}
+use Prim.Native.Nat.{◌-◌, ◌*◌}
 use borrow.Author.Tests.{lt-ltb, le-ltb}
 use Rattle.model.specs.Lists.{pick}
 use Rattle.model.specs.Matrix.{Matrix, identity, mul}
@@ -18,5 +18,5 @@ pub returns : goal.returns
 returns c =
     let a = c.args in
     c.mat4_mul-2.ensures
-    ∙ ap (λ (u : Matrix). mul u a.local.m) (c.load.ensures ∙ ap (λ (p : ℕ). matrix_in a.worlds.now (p * 16)) c.wide.ensures.0)
+    ∙ ap (λ (u : Matrix). mul u a.local.m) c.load.ensures
     ∙ ap (λ (b : Bool). mul (pick b identity (matrix_in a.worlds.now ((a.code - 3) * 16))) a.local.m) (sym (le-ltb a.code 3 c.if-code-lt3.false))

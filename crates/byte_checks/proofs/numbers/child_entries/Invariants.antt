@@ -1,9 +1,0 @@
-use mathlib.Core.Path.{◌≡◌}
-use Prim.Native.Nat.{◌-◌, ◌≤◌, min}
-use Rattle.wire.specs.Bytes.{words_in}
-use Rattle.checks.specs.Drawn.{entry_cap, sum_below, child_count}
-use Rattle.byte_checks.proofs.numbers.child_entries.Given as goal
-
-abbrev pub invariant-loop-i : goal.invariant-loop-i
-invariant-loop-i l =
-    (l.count ≡ l.nodes.count) × (l.i ≤ l.count) × (l.sum ≡ min (sum_below l.i (child_count (words_in l.words) l.nodes)) entry_cap)

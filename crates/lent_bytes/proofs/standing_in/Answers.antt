@@ -1,0 +1,5 @@
+use mathlib.Core.Path.{refl}
+use Rattle.lent_bytes.proofs.standing_in.Goals as goal
+
+pub returns : goal.returns
+returns c = refl

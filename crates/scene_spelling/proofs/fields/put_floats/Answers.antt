@@ -1,6 +1,0 @@
-use Rattle.spelling.proofs.Pushing.{put-append}
-use Rattle.scene_spelling.proofs.fields.put_floats.Goals as goal
-
-pub returns : goal.returns
-returns c =
-    put-append _ _ _ (put-append _ _ _ c.open_field-a.ensures c.put_floats-b.ensures) c.put.ensures

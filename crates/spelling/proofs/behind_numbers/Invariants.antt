@@ -1,5 +1,0 @@
-use Rattle.spelling.proofs.Pushing.{Behind}
-use Rattle.spelling.proofs.behind_numbers.Given as goal
-
-abbrev pub invariant-loop-n : goal.invariant-loop-n
-invariant-loop-n l = Behind l.items l.at l.k l.n-index

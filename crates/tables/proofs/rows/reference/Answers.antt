@@ -1,7 +1,0 @@
-use Rattle.tables.proofs.rows.reference.Goals as goal
-
-pub returns : goal.returns
-returns c = λ j. record {
-  mark = c.word.ensures j;
-  id = c.word-2.ensures j;
-}

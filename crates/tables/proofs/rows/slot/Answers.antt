@@ -1,7 +1,0 @@
-use Rattle.tables.proofs.rows.slot.Goals as goal
-
-pub returns : goal.returns
-returns c = λ j. record {
-  mark = c.word.ensures j;
-  part = c.part.ensures j;
-}
