@@ -11,6 +11,10 @@ id_in code = pick (ltb code 3) none (some (code - 3))
 abbrev pub up_in : List ℕ → ℕ → Option ℕ
 up_in codes i = id_in (get_or codes i 0)
 
+-- the code of what is above node a; none where no more of the line is taken
+abbrev pub code_above : List ℕ → ℕ → ℕ → ℕ
+code_above codes a left = pick (eqb left 0) 0 (get_or codes a 0)
+
 unfoldable pub line_in : List ℕ → ℕ → List ℕ
 line_in codes i = ancestors (suc (length codes)) (up_in codes) (some i)
 

@@ -1,65 +1,23 @@
 // The line of a node: the node and those above it, by the marks of `graph::parents`. A code is 0 or 1 where nothing is
 // above, and p + 3 for node p.
-ghost use Rattle.std.specs.Prelude.{◌≡◌, ◌≤◌, ◌<◌, eqb, length, get_or};
+ghost use Rattle.std.specs.Prelude.{◌≡◌, ◌+◌, ◌≤◌, ◌<◌, eqb, length, get_or};
 ghost use Rattle.model.specs.Limits.{node_limit};
 ghost use Rattle.model.specs.Lists.{foldl, first_that};
 ghost use Rattle.tables.specs.Tags.{option_of};
-ghost use Rattle.skin_roots.specs.Lines.{line_in, count_one, Leading};
-ghost use Rattle.skin_roots.specs.Line.{nodes_left};
+ghost use Rattle.skin_roots.specs.Lines.{code_above, line_in, count_one, Leading};
 
-// The nodes of a line that are left: the code of the next one, and how many are taken at most, so that a line that goes
-// round ends.
-#[derive(Drop)]
-struct Line<'a> {
-    codes: &'a [u32],
-    code: u32,
-    left: usize,
-}
-
-impl Iterator for Line<'_> {
-    ghost use Rattle.std.specs.Iterator.{YieldsFirst, item_count};
-    ghost use Rattle.skin_roots.specs.Line.{nodes_left};
-
-    type Item = u32;
-
-    ghost next_gives = { YieldsFirst nodes_left };
-
-    ghost remaining = { item_count nodes_left };
-
-    fn next(&mut self) -> Option<u32> {
-        if self.code < 3 {
-            return None;
-        }
-        if self.left == 0 {
-            return None;
-        }
-        let id = self.code - 3;
-        self.left -= 1;
-        self.code = above(self.codes, id as usize);
-        Some(id)
-    }
-}
-
-// The code of what is above node a.
-fn above(codes: &[u32], a: usize) -> u32
-    ensures { result ≡ get_or codes.now a 0 }
+// The code of what is above node a, with so many nodes of the line left to take. The loops over a line are `while`s,
+// since an iterator over its nodes was tried and takes half as long again.
+fn above(codes: &[u32], a: usize, left: usize) -> u32
+    ensures { result ≡ code_above codes.now a left }
 {
+    if left == 0 {
+        return 0;
+    }
     if a < codes.len() {
         return codes[a];
     }
     0
-}
-
-// The line of a node.
-fn line_of(codes: &[u32], node: u32) -> Line<'_>
-    requires { (length codes.now ≤ node_limit) × (node < node_limit) }
-    ensures { nodes_left result ≡ line_in codes.now node }
-{
-    Line {
-        codes,
-        code: node + 3,
-        left: codes.len() + 1,
-    }
 }
 
 // Counts node a if it was on the lines of all t joints before; one that missed a line stays behind.
@@ -80,8 +38,13 @@ fn count_line(codes: &[u32], joint: u32, t: usize, counts: &mut [usize])
     ensures { counts.new ≡ foldl (count_one t) counts.old
         (line_in codes.now joint) }
 {
-    for a in line_of(codes, joint) {
-        count_one(counts, a as usize, t);
+    let mut left = codes.len() + 1;
+    let mut code = joint + 3;
+    while 2 < code {
+        let a = (code - 3) as usize;
+        count_one(counts, a, t);
+        left -= 1;
+        code = above(codes, a, left);
     }
 }
 
@@ -113,10 +76,16 @@ pub(crate) fn first_counted(codes: &[u32], joint: u32, counts: &[usize], m: usiz
     ensures { option_of result ≡ first_that (λ a. eqb (get_or counts.now a 0) m)
         (line_in codes.now joint) }
 {
-    for a in line_of(codes, joint) {
-        if stands_at(counts, a as usize, m) {
-            return Some(a);
+    let mut left = codes.len() + 1;
+    let mut code = joint + 3;
+    while 2 < code {
+        let id = code - 3;
+        let a = id as usize;
+        if stands_at(counts, a, m) {
+            return Some(id);
         }
+        left -= 1;
+        code = above(codes, a, left);
     }
     None
 }

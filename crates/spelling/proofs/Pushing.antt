@@ -133,6 +133,15 @@ unfolding behind
 behind-run b [] at = omega arith
 behind-run b (c ∷ bs) at = behind-run c bs (min (suc at) farthest) ∙ omega arith
 
+pub behind-none : (bs : List ℕ) (at : ℕ) → length bs ≡ 0 → behind at bs ≡ at
+unfolding behind
+behind-none [] at e = refl
+behind-none (b ∷ bs) at e = absurd (omega arith)
+
+pub behind-some : (bs : List ℕ) (at : ℕ) → (length bs ≡ 0 → ⊥) → behind at bs ≡ min (at + length bs) farthest
+behind-some [] at h = absurd (h refl)
+behind-some (b ∷ bs) at h = behind-run b bs at
+
 -- numbers one after the other
 abbrev pub Behind : List ℕ → ℕ → ℕ → ℕ → Type 0
 Behind items at k i = behind k (items_text numbers (drop i items)) ≡ behind at (items_text numbers items)

@@ -5,6 +5,7 @@
 ghost use Rattle.std.specs.Prelude.{◌≡◌, refl, true, List, [], ◌∷◌, map, ℕ, ◌+◌, ◌≤◌, ◌<◌, min, ltb, length, set};
 ghost use Rattle.std.specs.Float.{binary32};
 ghost use Rattle.std.specs.Float.Ieee.{to_bits};
+ghost use Rattle.std.proofs.Math.Seq.{paste};
 ghost use Rattle.std.proofs.lemmas.List.Edits.{sets};
 ghost use Rattle.grammar.specs.Digits.{Sort, numbers, floats, hex_digit, last_digits, places, digits_of, sort_for};
 ghost use Rattle.grammar.specs.Digits.{items_text};
@@ -39,13 +40,36 @@ pub fn put(out: &mut [u8], at: usize, b: u8) -> usize
     next
 }
 
-// Puts bytes as they are: at once where there is room for all of them.
+// Stores bytes for which there is room.
+fn store_bytes(out: &mut [u8], at: usize, bytes: &[u8])
+    requires { at + length bytes.now ≤ length out.old }
+    ensures { out.new ≡ paste out.old at bytes.now (length bytes.now) }
+{
+    for i in 0..bytes.len() {
+        out[at + i] = bytes[i];
+    }
+}
+
+// The place behind bytes for which there is no room.
+fn behind_bytes(at: usize, bytes: &[u8]) -> usize
+    ensures { result ≡ behind at bytes.now }
+{
+    if bytes.is_empty() {
+        return at;
+    }
+    at.saturating_add(bytes.len()).min(0x8000_0000_0000_0000)
+}
+
+// Puts bytes as they are: at once where there is room for all of them, or for none.
 pub fn put_bytes(out: &mut [u8], at: usize, bytes: &[u8]) -> usize
     ensures { Puts bytes.now out at result }
 {
+    if out.len() <= at {
+        return behind_bytes(at, bytes);
+    }
     let n = bytes.len();
-    if at < out.len() && n <= out.len() - at {
-        out[at..at + n].copy_from_slice(bytes);
+    if n <= out.len() - at {
+        store_bytes(out, at, bytes);
         return at + n;
     }
     let mut k = at;

@@ -12,7 +12,9 @@ pub fn copy_floats(part: &[f32], out: &mut [f32]) -> usize
     ensures { Writes part.now out result }
 {
     let n = part.len().min(out.len());
-    out[..n].copy_from_slice(&part[..n]);
+    for i in 0..n {
+        out[i] = part[i];
+    }
     n
 }
 

@@ -1,10 +1,13 @@
-use mathlib.Core.Path.{refl, ap}
+use mathlib.Core.Path.{refl, sym, ap, ◌∙◌}
 use mathlib.Core.List.{List, [], ◌∷◌, ◌++◌}
 use Prim.Native.Nat.{ℕ, ◌+◌, ◌-◌}
 use native.Mathlib.Omega.{arith}
 use borrow.Author.Rules.{rules}
 use lib.ListN.{length, take, drop}
-use Rattle.spelling.proofs.Pushing.{put-run, Parts, going-length, going_more, going_done}
+use lib.Seq.{drop-drop}
+use Rattle.std.proofs.lemmas.List.Edits.{paste_all}
+use Rattle.spelling.specs.Pushed.{out_at}
+use Rattle.spelling.proofs.Pushing.{put-run, put-past, Parts, going-length, going_more, going_done}
 use Rattle.spelling.proofs.put_bytes.Invariants.{text}
 use Rattle.spelling.proofs.put_bytes.Goals as goal
 
@@ -24,9 +27,18 @@ shape_of-out c = going-length _ _ _ _ c.loop-b.invariant
 pub returns : goal.returns
 returns c = going_done parts _ _ _ _ c.loop-b.invariant c.loop-b-test.false
 
+pub returns-then-out-at : goal.returns-then-out-at
+returns-then-out-at c =
+    let a = c.args in
+    sym (put-past a.bytes.now a.out.now a.at c.if-out-at.true (omega arith)
+    ∙ ap (out_at a.out.now) (sym c.behind_bytes.ensures))
+
 pub returns-then-n-out : goal.returns-then-n-out
 returns-then-n-out c =
-    let a = c.args in
-    let n = a.at + length a.bytes.now - a.at in
-    put-run a.out.now a.at n a.bytes.now (search rules) (omega arith) (omega arith)
-    (ap (λ (bs : List ℕ). take a.at a.out.now ++ (bs ++ drop n (drop a.at a.out.now))) c.copy_from_slice.ensures.after)
+    let lent = c.args.out.now in
+    let at = c.args.at in
+    let bs = c.args.bytes.now in
+    let n = length bs in
+    put-run lent at n bs (search rules) (omega arith) refl
+    (c.store_bytes.ensures ∙ paste_all lent at bs n refl
+    ∙ ap (λ (l : List ℕ). take at lent ++ (bs ++ l)) (sym (drop-drop n at lent)))

@@ -1,37 +1,50 @@
 -- What is left of the line is still to search.
-use mathlib.Core.Path.{◌≡◌, sym, ap, ◌∙◌}
+use mathlib.Core.Path.{refl, sym, ap, ◌∙◌}
 use mathlib.Core.Bool.{Bool}
-use mathlib.Core.List.{List, ◌∷◌}
-use mathlib.Core.Option.{some}
-use Prim.Native.Nat.{ℕ}
+use mathlib.Core.List.{List}
+use Prim.Native.Nat.{ℕ, ◌-◌}
+use native.Mathlib.Omega.{arith}
 use lib.Dec.{eqb}
 use lib.ListN.{get_or}
-use Rattle.model.specs.Lists.{pick, first_that}
+use Rattle.model.specs.Lists.{first_that}
+use Rattle.skin_roots.proofs.Upward.{line-start, goes_on, first_found, first-passed, first-none}
 use Rattle.skin_roots.proofs.lines.first_counted.Goals as goal
-
--- a search from the first of some nodes
-first_of : (p : ℕ → Bool) (all others : List ℕ) (a : ℕ) (b : Bool) → all ≡ a ∷ others → p a ≡ b → pick b (some a) (first_that p others) ≡ first_that p all
-unfolding first_that
-first_of p all others a b e f = sym (ap (λ (t : Bool). pick t (some a) (first_that p others)) f) ∙ sym (ap (first_that p) e)
 
 -- the test of a node
 passes : List ℕ → ℕ → ℕ → Bool
 passes counts m a = eqb (get_or counts a 0) m
 
+pub loop-code-init : goal.loop-code-init
+unfolding passes
+loop-code-init c =
+    (ap (first_that (passes c.args.counts.now c.args.m)) (line-start c.args.codes.now c.args.joint), (λ h. omega arith))
+
 pub returns-then-stands_at : goal.returns-then-stands_at
 unfolding passes
 returns-then-stands_at c =
-    let a = c.args in
-    first_of (passes a.counts.now a.m) _ _ _ _ c.in-Some.ensures.steps (sym c.stands_at.ensures ∙ c.if-stands_at.true) ∙ c.loop-a.invariant
+    let l = c.loop-code in
+    let h = c.loop-code-test.true in
+    sym (l.invariant.0 ∙ first_found c.args.codes.now (passes c.args.counts.now c.args.m) l.left l.code (l.code - 3) (l.invariant.1 h) h refl (sym c.stands_at.ensures ∙ c.if-stands_at.true))
 
-pub loop-a-preserved : goal.loop-a-preserved
+pub overflow_sub-left : goal.overflow_sub-left
+overflow_sub-left c = omega (arith, c.loop-code.invariant.1 c.loop-code-test.true)
+
+pub loop-code-smaller : goal.loop-code-smaller
+loop-code-smaller c = omega (arith, c.loop-code.invariant.1 c.loop-code-test.true)
+
+pub loop-code-preserved : goal.loop-code-preserved
 unfolding passes
-loop-a-preserved c =
-    let a = c.args in
-    first_of (passes a.counts.now a.m) _ _ _ _ c.in-Some.ensures.steps (sym c.stands_at.ensures ∙ c.if-stands_at.false) ∙ c.loop-a.invariant
+loop-code-preserved c =
+    let l = c.loop-code in
+    let h = c.loop-code-test.true in
+    let codes = c.args.codes.now in (
+      l.invariant.0
+          ∙ first-passed codes (passes c.args.counts.now c.args.m) l.left l.code (l.code - 3) _ (l.invariant.1 h) h refl c.above-code.ensures (sym c.stands_at.ensures ∙ c.if-stands_at.false),
+      goes_on codes _ _ _ c.above-code.ensures,
+    )
 
 pub returns : goal.returns
-unfolding first_that
+unfolding passes
 returns c =
-    let a = c.args in
-    sym (ap (first_that (λ x. eqb (get_or a.counts.now x 0) a.m)) c.in-None.ensures.steps.0) ∙ c.loop-a.invariant
+    let l = c.loop-code in
+    sym (l.invariant.0 ∙ first-none c.args.codes.now (passes c.args.counts.now c.args.m) l.left l.code (omega (arith, c.loop-code-test.false)))

@@ -1,0 +1,6 @@
+use mathlib.Core.Path.{◌≡◌}
+use lib.Seq.{paste}
+use Rattle.spelling.proofs.store_bytes.Given as goal
+
+abbrev pub invariant-loop-i : goal.invariant-loop-i
+invariant-loop-i l = l.out ≡ paste l.initial.out l.at l.bytes l.i
