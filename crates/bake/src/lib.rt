@@ -7,6 +7,7 @@ ghost use Rattle.worlds.specs.Rooms.{SameRoom};
 ghost use Rattle.borrowed.specs.Attributes.{SameSlices};
 ghost use Rattle.bake.specs.Baked.{room_lent, told_by, Baked};
 
+use bake_writing::Placed;
 use borrowed::Vertices;
 use refusals::Refusal;
 use shapes::Lengths;
@@ -65,6 +66,16 @@ fn fits(n: Lengths, out: &Vertices<'_>) -> bool
         & (n.tangents <= out.tangents.len())
 }
 
+// The placing that a room holds.
+fn placed_in<'a>(room: &'a Room<'_>) -> Placed<'a>
+    ensures { (result.places.now ≡ room.now.places.now) × (result.worlds.now ≡ room.now.worlds.now) }
+{
+    Placed {
+        places: room.places,
+        worlds: room.worlds,
+    }
+}
+
 // The mesh of a node in the world at a time: blended, skinned or transformed, its primitives one after the other in the
 // three outputs. The scratch room (pose slots, walk room, world slots) is lent, and holds the pose and the placing
 // after.
@@ -88,7 +99,8 @@ pub fn world_mesh_at(
     let mesh = bake_writing::mesh_of(lent, node);
     let n = shapes::mesh_lengths(lent.words, lent.header.meshes.primitives, mesh.primitives);
     let fit = fits(n, out);
-    bake_stages::check_late(lent, node, room, fit)?;
-    bake_writing::deliver(lent, node, time, marks, room, out);
+    let placed = placed_in(room);
+    bake_stages::check_late(lent, node, placed.places, fit)?;
+    bake_writing::deliver(lent, node, time, marks, placed, out);
     Ok(Put { lengths: n, taken })
 }

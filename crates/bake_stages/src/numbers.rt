@@ -8,7 +8,7 @@ ghost use Rattle.bake_stages.specs.Numbers.{early_for, first_for, late_for};
 use crate::palettes::can_have_palette;
 use refusals::Refusal;
 use tables::Lent;
-use worlds::{Room, Space};
+use worlds::Space;
 
 // What a bake draws as far as 6, with so much room.
 fn check_early(lent: Lent, time: f32, space: Space) -> Result<(), Refusal>
@@ -39,15 +39,15 @@ pub fn check_first(lent: Lent, node: u32, time: f32, space: Space) -> Result<(),
 }
 
 // What a bake draws past 7: 8, 9, 10, or nothing.
-pub fn check_late(lent: Lent, node: u32, room: &Room<'_>, fit: bool) -> Result<(), Refusal>
+pub fn check_late(lent: Lent, node: u32, places: &[u32], fit: bool) -> Result<(), Refusal>
     ensures { (own mesh slots : List Float) → number_drawn result
         ≡ late_for (lent_as lent.entry.words.now lent.entry.floats.now own mesh lent.entry.header) node
-        room.now.places.now slots fit }
+        places.now slots fit }
 {
     let nodes = lent.header.graph.nodes;
-    if skin::is_placed(node, nodes.count, room.places) {
+    if skin::is_placed(node, nodes.count, places) {
         let row = tables::node_row(lent.words, nodes, node as usize);
-        if can_have_palette(lent, row.skin, room.places) {
+        if can_have_palette(lent, row.skin, places) {
             if fit {
                 return Ok(());
             }

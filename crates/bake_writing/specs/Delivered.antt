@@ -18,10 +18,10 @@ use Rattle.tables.specs.Records.{node_row, mesh_row, skeleton_row}
 use Rattle.tables.specs.Decoded.{Lent, mesh_of, scene_of}
 use Rattle.row_checks.specs.Bounds.{skeleton_within}
 use Rattle.checks.specs.Drawn.{lent_as, tables_number}
-use Rattle.worlds.specs.declared.Room.{Room}
 use Rattle.shapes.specs.Rest.{primitives_in, lengths_below, AtMost, Drawable, PutOut}
 use Rattle.bake_stages.specs.Scratch.{Slices, room_of, scratch_left}
 use Rattle.bake_stages.specs.Skinned.{skin_palette_from, palette_from}
+use Rattle.bake_writing.specs.declared.Placed.{Placed}
 
 -- the record of node i's mesh, and its primitives
 abbrev pub mesh_record : List ℕ → Header → ℕ → MeshRow
@@ -48,17 +48,17 @@ MeshPutOut l primitives world palette weights old new =
     old new
 
 -- with the palette of a skin, where one can be made from the world slots
-abbrev pub SkinnedPutOut : Lent → Part → Matrix → ℕ → Room → List Float → Vertices → Vertices → Type 0
-SkinnedPutOut l primitives world skin room weights old new =
+abbrev pub SkinnedPutOut : Lent → Part → Matrix → ℕ → Placed → List Float → Vertices → Vertices → Type 0
+SkinnedPutOut l primitives world skin placed weights old new =
     (own mesh : List Float) (p : List Matrix)
-    → skin_palette_from (lent_as l.words l.floats own mesh l.header) skin room.places.now room.worlds.now ≡ some p
+    → skin_palette_from (lent_as l.words l.floats own mesh l.header) skin placed.places.now placed.worlds.now ≡ some p
     → MeshPutOut l primitives world (some p) weights old new
 
 -- with that of what a node names, if that is a skin
-abbrev pub NamedPutOut : Lent → Part → Matrix → Reference → Room → List Float → Vertices → Vertices → Type 0
-NamedPutOut l primitives world skin room weights old new =
+abbrev pub NamedPutOut : Lent → Part → Matrix → Reference → Placed → List Float → Vertices → Vertices → Type 0
+NamedPutOut l primitives world skin placed weights old new =
     (own mesh : List Float) (p : Option (List Matrix))
-    → palette_from (lent_as l.words l.floats own mesh l.header) skin room.places.now room.worlds.now ≡ some p
+    → palette_from (lent_as l.words l.floats own mesh l.header) skin placed.places.now placed.worlds.now ≡ some p
     → MeshPutOut l primitives world p weights old new
 
 -- the primitives can be put out: they lie in their tables, the outputs are long enough, and the skeletons are within
@@ -94,9 +94,9 @@ pub record Delivered (l : Lent) (i : ℕ) (time : Float) (marks places : List �
       lp p ln n lt t
 
 -- of what a call is lent
-abbrev pub Delivers : Lent → ℕ → Float → List ℕ → Room → Vertices → Vertices → Type 0
-Delivers l i time marks room old new =
-    Delivered l i time marks room.places.now room.worlds.now
+abbrev pub Delivers : Lent → ℕ → Float → List ℕ → Placed → Vertices → Vertices → Type 0
+Delivers l i time marks placed old new =
+    Delivered l i time marks placed.places.now placed.worlds.now
     old.positions.now new.positions.now
     old.normals.now new.normals.now
     old.tangents.now new.tangents.now

@@ -4,12 +4,12 @@ ghost use Rattle.tables.specs.Decoded.{lent_of};
 ghost use Rattle.borrowed.specs.Attributes.{SameSlices};
 ghost use Rattle.bake_writing.specs.Delivered.{part_of, Deliverable, Delivers};
 
+use crate::Placed;
 use crate::palettes::put_out;
 use crate::weighing::weights_into;
 use borrowed::Vertices;
 use refusals::WEIGHT_LIMIT;
 use tables::{Lent, MeshRow};
-use worlds::Room;
 
 // The record of a node's mesh.
 pub fn mesh_of(lent: Lent, node: u32) -> MeshRow
@@ -28,27 +28,27 @@ pub fn deliver(
     node: u32,
     time: f32,
     marks: &[u32],
-    room: &Room<'_>,
+    placed: Placed,
     out: &mut Vertices<'_>,
 )
     requires { Deliverable lent.words.now lent.floats.now lent.header (part_of lent.words.now lent.header node)
         out.old }
     ensures same_outputs { SameSlices out.old out.new }
-    ensures delivers { Delivers (lent_of lent.entry) node time marks.now room.now out.old out.new }
+    ensures delivers { Delivers (lent_of lent.entry) node time marks.now placed.entry out.old out.new }
 {
     let mut blend = [0.0f32; WEIGHT_LIMIT];
     let mesh = mesh_of(lent, node);
     let n = weights_into(lent, node, mesh, time, marks, &mut blend);
     let i = node as usize;
     let row = tables::node_row(lent.words, lent.header.graph.nodes, i);
-    let world = scene::load(room.worlds, i * 16);
+    let world = scene::load(placed.worlds, i * 16);
     put_out(
         lent,
         mesh.primitives,
         &blend[..n],
         world,
         row.skin,
-        room,
+        placed,
         out,
     );
 }

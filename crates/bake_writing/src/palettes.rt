@@ -6,12 +6,12 @@ ghost use Rattle.bake_stages.specs.Skinned.{skin_palette_from};
 ghost use Rattle.borrowed.specs.Attributes.{SameSlices};
 ghost use Rattle.bake_writing.specs.Delivered.{SkinnedPutOut, NamedPutOut, Deliverable};
 
+use crate::Placed;
 use borrowed::Vertices;
 use refusals::JOINT_LIMIT;
 use scene::Mat4;
 use tables::{Lent, Reference};
 use tracks::Part;
-use worlds::Room;
 
 // The floats of a palette with as many joints as a skeleton may have.
 const PALETTE: usize = JOINT_LIMIT * 16;
@@ -35,16 +35,16 @@ fn put_skinned(
     weights: &[f32],
     world: Mat4,
     skin: u32,
-    room: &Room<'_>,
+    placed: Placed,
     out: &mut Vertices<'_>,
 )
     requires { Deliverable lent.words.now lent.floats.now lent.header part out.old }
     ensures same_outputs { SameSlices out.old out.new }
-    ensures put { SkinnedPutOut (lent_of lent.entry) part world.m skin room.now weights.now out.old out.new }
+    ensures put { SkinnedPutOut (lent_of lent.entry) part world.m skin placed.entry weights.now out.old out.new }
 {
     let mut palette = [0.0f32; PALETTE];
-    skin::write_palette(lent, skin, room.places, room.worlds, &mut palette);
-    let n = joints_of(lent, skin, room.places) * 16;
+    skin::write_palette(lent, skin, placed.places, placed.worlds, &mut palette);
+    let n = joints_of(lent, skin, placed.places) * 16;
     shapes::write_mesh(lent, part, weights, world, Some(&palette[..n]), out);
 }
 
@@ -55,15 +55,15 @@ pub(crate) fn put_out(
     weights: &[f32],
     world: Mat4,
     skin: Reference,
-    room: &Room<'_>,
+    placed: Placed,
     out: &mut Vertices<'_>,
 )
     requires { Deliverable lent.words.now lent.floats.now lent.header part out.old }
     ensures same_outputs { SameSlices out.old out.new }
-    ensures put { NamedPutOut (lent_of lent.entry) part world.m skin room.now weights.now out.old out.new }
+    ensures put { NamedPutOut (lent_of lent.entry) part world.m skin placed.entry weights.now out.old out.new }
 {
     if tables::is_marked(skin.mark) {
-        put_skinned(lent, part, weights, world, skin.id, room, out);
+        put_skinned(lent, part, weights, world, skin.id, placed, out);
     } else {
         shapes::write_mesh(lent, part, weights, world, None, out);
     }

@@ -2,3 +2,4 @@ pub mod OneRecord
 pub mod TableThere
 pub mod SceneLaws
 pub mod CallLaws
+pub mod JudgedLaws

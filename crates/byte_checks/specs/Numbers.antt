@@ -24,5 +24,8 @@ abbrev pub early_in : ℕ → Lent → Float → Scratch → ℕ
 early_in room l time r = lowest (early_number (tables_number l) (scene_of l) time r) room
 
 -- and 7 where node i has no mesh
+abbrev pub mesh_number : Lent → ℕ → ℕ
+mesh_number l i = pick (is_some (mesh_at (scene_of l) i)) 0 (number no_such_node)
+
 abbrev pub first_in : ℕ → Lent → ℕ → Float → Scratch → ℕ
-first_in room l i time r = lowest (early_in room l time r) (pick (is_some (mesh_at (scene_of l) i)) 0 (number no_such_node))
+first_in room l i time r = lowest (early_in room l time r) (mesh_number l i)

@@ -7,7 +7,8 @@ ghost use Rattle.skin.specs.Weights.{Meshed};
 ghost use Rattle.lent_bytes.specs.Bytes.{lent_of_bytes};
 ghost use Rattle.worlds.specs.Rooms.{scratch_in};
 ghost use Rattle.byte_checks.specs.Bytes.{TableThere};
-ghost use Rattle.byte_checks.specs.Numbers.{room_in, place_in, early_in, first_in};
+ghost use Rattle.byte_checks.specs.Numbers.{room_in, place_in, early_in, mesh_number};
+ghost use Rattle.byte_checks.specs.Judged.{Judged};
 
 use crate::lines::check_scene;
 use crate::numbers::check_tables;
@@ -17,46 +18,44 @@ use refusals::Refusal;
 use tables::{Graph, Header};
 use worlds::Space;
 
-// What room for so many entries, poses and worlds draws, and then the decoding room.
-fn check_room(
-    words: &[u8],
-    graph: Graph,
-    space: Space,
-    drawn: Result<(), Refusal>,
-) -> Result<(), Refusal>
+// What room for so many entries, poses and worlds draws.
+fn check_room(words: &[u8], graph: Graph, space: Space) -> Result<(), Refusal>
     requires { TableThere words.now graph.nodes table.Nodes }
-    ensures { number_drawn result ≡ room_in (number_drawn drawn) (words_in words.now) graph space.walk space.poses space.worlds }
+    ensures { number_drawn result ≡ room_in 0 (words_in words.now) graph space.walk space.poses space.worlds }
 {
-    let children = checks::child_entries(Bytes { words }, graph.nodes);
+    let children = checks::listed_entries(Bytes { words }, graph.nodes);
     if worlds::is_short_for(children, graph, space) {
         return Err(Refusal::ShortScratch);
     }
-    drawn
+    Ok(())
 }
 
 // What a placing of a scene in bytes draws, with room for so many entries, poses and worlds; `drawn` is what the
-// decoding room draws.
-pub fn check_place(lent: LentBytes, space: Space, drawn: Result<(), Refusal>) -> Result<(), Refusal>
-    ensures { number_drawn result ≡ place_in (number_drawn drawn) (lent_of_bytes lent.entry)
-        (scratch_in space) }
+// decoding room draws, in the caller's own type for refusals.
+pub fn check_place<E: From<Refusal> + Drop>(
+    lent: LentBytes,
+    space: Space,
+    drawn: Result<(), E>,
+) -> Result<(), E>
+    ensures { Judged E.from_gives (place_in 0 (lent_of_bytes lent.entry) (scratch_in space)) drawn 0 result }
 {
     check_tables(lent)?;
-    check_room(lent.words, lent.header.graph, space, drawn)
+    check_room(lent.words, lent.header.graph, space)?;
+    drawn
 }
 
 // What a bake of a scene in bytes draws as far as 6.
-fn check_early(
+fn check_early<E: From<Refusal> + Drop>(
     lent: LentBytes,
     time: f32,
     space: Space,
-    drawn: Result<(), Refusal>,
-) -> Result<(), Refusal>
-    ensures { number_drawn result ≡ early_in (number_drawn drawn)
-        (lent_of_bytes lent.entry) time
-        (scratch_in space) }
+    drawn: Result<(), E>,
+) -> Result<(), E>
+    ensures { Judged E.from_gives (early_in 0 (lent_of_bytes lent.entry) time (scratch_in space)) drawn 0 result }
 {
     check_scene(lent, time)?;
-    check_room(lent.words, lent.header.graph, space, drawn)
+    check_room(lent.words, lent.header.graph, space)?;
+    drawn
 }
 
 // Whether a node has a mesh.
@@ -73,20 +72,19 @@ fn has_mesh(words: &[u8], h: Header, node: u32) -> bool
 }
 
 // What a bake of a scene in bytes draws as far as 7.
-pub fn check_first(
+pub fn check_first<E: From<Refusal> + Drop>(
     lent: LentBytes,
     node: u32,
     time: f32,
     space: Space,
-    drawn: Result<(), Refusal>,
-) -> Result<(), Refusal>
-    ensures { number_drawn result ≡ first_in (number_drawn drawn)
-        (lent_of_bytes lent.entry) node time
-        (scratch_in space) }
+    drawn: Result<(), E>,
+) -> Result<(), E>
+    ensures { Judged E.from_gives (early_in 0 (lent_of_bytes lent.entry) time (scratch_in space)) drawn
+        (mesh_number (lent_of_bytes lent.entry) node) result }
 {
     check_early(lent, time, space, drawn)?;
     if has_mesh(lent.words, lent.header, node) {
         return Ok(());
     }
-    Err(Refusal::NoSuchNode)
+    Err(E::from(Refusal::NoSuchNode))
 }

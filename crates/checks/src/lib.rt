@@ -6,10 +6,10 @@ mod numbers;
 mod records;
 
 pub use numbers::{
-    capped, check_all, check_roots, check_table, check_tables, child_entries, record_words,
-    sizes_for, sizes_of,
+    capped, check_all, check_entries, check_roots, check_table, check_tables, child_entries,
+    listed_entries, record_words, sizes_for, sizes_of,
 };
-pub use records::{Words, check_row, table_of};
+pub use records::{Words, check_row, lower, table_of};
 
 // The tables of records.
 #[derive(Clone, Copy)]

@@ -72,8 +72,9 @@ pub fn capped(sum: usize, count: usize) -> usize
     sum.saturating_add(count).min(ENTRY_CAP)
 }
 
-// The child entries of all nodes, an entry counted as often as it is listed, as far as one above their limit.
-pub fn child_entries<W: Words>(words: W, nodes: Part) -> usize
+// The child entries of all nodes, an entry counted as often as it is listed, as far as one above their limit: in words
+// or in bytes.
+pub fn listed_entries<W: Words>(words: W, nodes: Part) -> usize
     requires { W.there words nodes table.Nodes }
     ensures { result ≡ capped_entries (W.said words) nodes }
 {
@@ -85,8 +86,15 @@ pub fn child_entries<W: Words>(words: W, nodes: Part) -> usize
     sum
 }
 
+// The same of words, whatever stands in them.
+pub fn child_entries(words: &[u32], nodes: Part) -> usize
+    ensures { result ≡ capped_entries words.now nodes }
+{
+    listed_entries(words, nodes)
+}
+
 // What so many child entries draw.
-fn check_entries(entries: usize) -> Result<(), Refusal>
+pub fn check_entries(entries: usize) -> Result<(), Refusal>
     ensures { number_drawn result ≡ entries_number entries }
 {
     check(true, entries <= CHILD_ENTRY_LIMIT)
@@ -97,7 +105,7 @@ fn check_children<W: Words>(words: W, nodes: Part) -> Result<(), Refusal>
     requires { W.there words nodes table.Nodes }
     ensures { number_drawn result ≡ children_number (W.said words) nodes }
 {
-    check_entries(child_entries(words, nodes))
+    check_entries(listed_entries(words, nodes))
 }
 
 // What the roots draw by their place and their count.

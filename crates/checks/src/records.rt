@@ -35,7 +35,7 @@ pub(crate) fn check(fits: bool, within: bool) -> Result<(), Refusal>
 
 // The lower of two answers: the lower refusal, or the one that there is. The numbers are compared: the derived order
 // is proved over the variants' tags, and contracts speak of numbers.
-pub(crate) fn lower(a: Result<(), Refusal>, b: Result<(), Refusal>) -> Result<(), Refusal>
+pub fn lower(a: Result<(), Refusal>, b: Result<(), Refusal>) -> Result<(), Refusal>
     ensures { number_drawn result ≡ lower_of (number_drawn a) (number_drawn b) }
 {
     let Err(x) = a else {

@@ -1,6 +1,7 @@
 ghost use Rattle.std.specs.Prelude.{◌≡◌};
 ghost use Rattle.refusals.specs.Drawn.{number_drawn};
 ghost use Rattle.tables.specs.Decoded.{lent_of};
+ghost use Rattle.checks.specs.Drawn.{scene_lent};
 ghost use Rattle.skin.specs.Weights.{names_mesh, Meshed, Effective, weights_number_for, weights_for};
 
 use refusals::Refusal;
@@ -59,15 +60,29 @@ pub fn check_weights(lent: Lent, node: u32) -> Result<(), Refusal>
     Err(Refusal::NoSuchNode)
 }
 
-// The weights that a node's mesh is blended with, where they lie; the empty part where the call is refused.
-pub fn effective_morph_weights<'a>(lent: Lent<'a>, node: u32) -> &'a [f32]
-    ensures { result.now ≡ weights_for (lent_of lent.entry) node }
+// The weights that a node's mesh is blended with, where they lie; the empty part where the call is refused. In a `Lent`
+// the words and floats would have to live as long as the answer.
+pub fn effective_morph_weights<'a>(
+    words: &[u32],
+    floats: &[f32],
+    node_weights: &'a [f32],
+    mesh_weights: &'a [f32],
+    h: Header,
+    node: u32,
+) -> &'a [f32]
+    ensures { result.now ≡ weights_for (scene_lent words floats node_weights mesh_weights h) node }
 {
+    let lent = Lent {
+        words,
+        floats,
+        node_weights,
+        mesh_weights,
+        header: h,
+    };
     if check_weights(lent, node).is_err() {
-        return &lent.node_weights[0..0];
+        return &node_weights[0..0];
     }
-    let h = lent.header;
-    let row = tables::node_row(lent.words, h.graph.nodes, node as usize);
-    let mesh = tables::mesh_row(lent.words, h.meshes.meshes, row.mesh.id as usize);
-    weights_of(lent.node_weights, lent.mesh_weights, row, mesh)
+    let row = tables::node_row(words, h.graph.nodes, node as usize);
+    let mesh = tables::mesh_row(words, h.meshes.meshes, row.mesh.id as usize);
+    weights_of(node_weights, mesh_weights, row, mesh)
 }

@@ -81,6 +81,13 @@ pub extern "C" fn mesh3d_effective_weights_floats(
         header,
     };
     let drawn = skin::check_weights(lent, node);
-    let weights = skin::effective_morph_weights(lent, node);
+    let weights = skin::effective_morph_weights(
+        words,
+        floats,
+        node_weights,
+        mesh_weights,
+        header,
+        node,
+    );
     Answer::from(outputs::copy_out(drawn, weights, out))
 }

@@ -1,14 +1,17 @@
 use mathlib.Core.Path.{refl, sym, ap, ◌∙◌, subst}
+use mathlib.Core.Bool.{Bool}
+use mathlib.Core.List.{List}
 use lib.Ieee.{Float}
 use Prim.Native.Nat.{ℕ}
 use Rattle.tables.specs.declared.MeshRow.{MeshRow}
 use Rattle.tables.specs.Decoded.{Lent, lent_of}
 use Rattle.shapes.specs.Rest.{lengths_below, Counted}
-use Rattle.bake_stages.specs.Numbers.{first_for}
+use Rattle.bake_stages.specs.Numbers.{first_for, late_for}
 use Rattle.bake_stages.proofs.Drawing.{ready}
 use Rattle.std.proofs.Common.{◌≡◌, Result, Err}
 use Rattle.refusals.specs.declared.Refusal.{Refusal}
 use Rattle.refusals.proofs.Told.{not-none, passed-on}
+use Rattle.bake_writing.specs.Delivered.{Delivered}
 use Rattle.bake.specs.declared.Put.{Put}
 use Rattle.bake.specs.Baked.{Change, room_in, told_by, Baked}
 use Rattle.bake.proofs.Judging.{refused-first}
@@ -19,6 +22,18 @@ use Rattle.bake.proofs.world_mesh_at.Goals as goal
 told-as : {l : Lent} {i : ℕ} {time : Float} {c : Change} (t : Result Put Refusal) (e : Refusal) → t ≡ Err e
     → Baked l i time c (told_by (Err e)) → Baked l i time c (told_by t)
 told-as {l} {i} {time} {c} t e q h = subst (λ (u : Result Put Refusal). Baked l i time c (told_by u)) (sym q) h
+
+-- said of the placing that the room holds
+late-as : (l : Lent) (i n : ℕ) (places places' : List ℕ) (slots : List Float) (fit : Bool) → places ≡ places'
+    → n ≡ late_for l i places slots fit → n ≡ late_for l i places' slots fit
+late-as l i n places places' slots fit e h = h ∙ ap (λ (p : List ℕ). late_for l i p slots fit) e
+
+delivered-as : {l : Lent} {i : ℕ} {time : Float} {marks places places' : List ℕ} {worlds worlds' lp p ln n lt t : List Float}
+    → places ≡ places' → worlds ≡ worlds'
+    → Delivered l i time marks places worlds lp p ln n lt t → Delivered l i time marks places' worlds' lp p ln n lt t
+delivered-as {l} {i} {time} {marks} {places} {places'} {worlds} {worlds'} {lp} {p} {ln} {n} {lt} {t} e f d =
+    subst (λ (w : List Float). Delivered l i time marks places' w lp p ln n lt t) f
+    (subst (λ (c : List ℕ). Delivered l i time marks c worlds lp p ln n lt t) e d)
 
 pub returns-in_err-check_first-clause-baked : goal.returns-in_err-check_first-clause-baked
 returns-in_err-check_first-clause-baked c =
@@ -59,7 +74,7 @@ returns-in_err-check_late-clause-baked c =
     told-as _ e (passed-on _ e c.from_residual-in_err-check_late.ensures.1)
     (turned_down l a.node a.time r z _ n _ c.fits-fit.ensures _
     (c.pose_and_place-taken.ensures.placed l.node_weights l.mesh_weights).1 _
-    (c.in_err-check_late.ensures l.node_weights l.mesh_weights _) (not-none e) _ refl)
+    (late-as l a.node _ _ _ _ _ c.placed_in-placed.ensures.0 (c.in_err-check_late.ensures l.node_weights l.mesh_weights _)) (not-none e) _ refl)
 
 pub deliver-requires : goal.deliver-requires
 deliver-requires c =
@@ -73,7 +88,7 @@ deliver-requires c =
       long-enough l a.node a.time r z _ n _ fit
           (fit-true l a.node a.time r z _ n _ fit _
           (c.pose_and_place-taken.ensures.placed l.node_weights l.mesh_weights).1 _
-          (c.in_ok-check_late.ensures l.node_weights l.mesh_weights _) refl),
+          (late-as l a.node _ _ _ _ _ c.placed_in-placed.ensures.0 (c.in_ok-check_late.ensures l.node_weights l.mesh_weights _)) refl),
       skeletons l a.node a.time r z,
     )
 
@@ -86,7 +101,7 @@ returns-clause-baked c =
     let n = c.mesh_lengths-n.ensures ∙ ap (λ (m : MeshRow). lengths_below l.words l.header.meshes.primitives m.primitives m.primitives.count) c.mesh_of-mesh.ensures in
     let placed = c.pose_and_place-taken.ensures.placed l.node_weights l.mesh_weights in
     done l a.node a.time r z _ n _ c.fits-fit.ensures _ placed.1 _
-    (c.in_ok-check_late.ensures l.node_weights l.mesh_weights _) refl _ placed.0 _ _ _ c.deliver.ensures.delivers
+    (late-as l a.node _ _ _ _ _ c.placed_in-placed.ensures.0 (c.in_ok-check_late.ensures l.node_weights l.mesh_weights _)) refl _ placed.0 _ _ _ (delivered-as c.placed_in-placed.ensures.0 c.placed_in-placed.ensures.1 c.deliver.ensures.delivers)
 
 pub shape_of-marks-in_err-check_late : goal.shape_of-marks-in_err-check_late
 shape_of-marks-in_err-check_late c = c.pose_and_place-taken.auto.marks

@@ -19,5 +19,5 @@ pub returns-then-is_marked-clause-put : goal.returns-then-is_marked-clause-put
 returns-then-is_marked-clause-put c = λ own mesh p e.
     let a = c.args in
     put-with (put (lent_of a.lent) a.part a.world.m a.weights.now) _ _ _ _ _ _ (lent_as a.lent.words.now a.lent.floats.now own mesh a.lent.header)
-    a.skin a.room.now.places.now a.room.now.worlds.now p e (sym c.is_marked.ensures ∙ c.if-is_marked.true)
+    a.skin a.placed.places.now a.placed.worlds.now p e (sym c.is_marked.ensures ∙ c.if-is_marked.true)
     (c.put_skinned.ensures.put own mesh)

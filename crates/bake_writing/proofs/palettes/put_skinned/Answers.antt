@@ -16,20 +16,20 @@ use Rattle.bake_writing.proofs.palettes.put_skinned.Goals as goal
 pub overflow_mul-n : goal.overflow_mul-n
 overflow_mul-n c =
     let a = c.args in
-    let few = few-matrices (lent_as a.lent.words.now a.lent.floats.now [] [] a.lent.header) a.skin a.room.now.places.now a.room.now.worlds.now c.requires.2 in
-    omega (arith, few, c.joints_of-n.ensures [] [] a.room.now.worlds.now)
+    let few = few-matrices (lent_as a.lent.words.now a.lent.floats.now [] [] a.lent.header) a.skin a.placed.places.now a.placed.worlds.now c.requires.2 in
+    omega (arith, few, c.joints_of-n.ensures [] [] a.placed.worlds.now)
 
 pub slice_bounds-palette-end : goal.slice_bounds-palette-end
 slice_bounds-palette-end c =
     let a = c.args in
-    let few = few-matrices (lent_as a.lent.words.now a.lent.floats.now [] [] a.lent.header) a.skin a.room.now.places.now a.room.now.worlds.now c.requires.2 in
-    omega (arith, few, c.joints_of-n.ensures [] [] a.room.now.worlds.now, c.write_palette.auto.out)
+    let few = few-matrices (lent_as a.lent.words.now a.lent.floats.now [] [] a.lent.header) a.skin a.placed.places.now a.placed.worlds.now c.requires.2 in
+    omega (arith, few, c.joints_of-n.ensures [] [] a.placed.worlds.now, c.write_palette.auto.out)
 
 pub slice_bounds-write_mesh-end : goal.slice_bounds-write_mesh-end
 slice_bounds-write_mesh-end c =
     let a = c.args in
-    let few = few-matrices (lent_as a.lent.words.now a.lent.floats.now [] [] a.lent.header) a.skin a.room.now.places.now a.room.now.worlds.now c.requires.2 in
-    sym (length-take-le _ _ (omega (arith, few, c.joints_of-n.ensures [] [] a.room.now.worlds.now, c.write_palette.auto.out)))
+    let few = few-matrices (lent_as a.lent.words.now a.lent.floats.now [] [] a.lent.header) a.skin a.placed.places.now a.placed.worlds.now c.requires.2 in
+    sym (length-take-le _ _ (omega (arith, few, c.joints_of-n.ensures [] [] a.placed.worlds.now, c.write_palette.auto.out)))
 
 pub returns-clause-put : goal.returns-clause-put
 returns-clause-put c = λ own mesh p e.
@@ -37,6 +37,6 @@ returns-clause-put c = λ own mesh p e.
     let put : Option (List Matrix) → _ = λ q. output_of (map (baked_primitive a.world.m q a.weights.now) (primitives_in (lent_as a.lent.words.now a.lent.floats.now [] [] a.lent.header) a.part)) in
     put-alike put _ _ _ _ _ _ _ (some p)
     (ap some
-    (read_again (lent_as a.lent.words.now a.lent.floats.now own mesh a.lent.header) a.skin a.room.now.places.now a.room.now.worlds.now c.requires.2 p e _ _ (length-replicate {A = Float} 4096 zero32) (c.write_palette.ensures.slice own mesh) _
-    (c.joints_of-n.ensures own mesh a.room.now.worlds.now)))
+    (read_again (lent_as a.lent.words.now a.lent.floats.now own mesh a.lent.header) a.skin a.placed.places.now a.placed.worlds.now c.requires.2 p e _ _ (length-replicate {A = Float} 4096 zero32) (c.write_palette.ensures.slice own mesh) _
+    (c.joints_of-n.ensures own mesh a.placed.worlds.now)))
     c.write_mesh.ensures.put

@@ -8,6 +8,7 @@ use Rattle.bake_stages.specs.Scratch.{slices_in, room_of}
 use Rattle.bake.specs.Baked.{Room}
 use Rattle.lent_bytes.specs.Bytes.{slices_of, Decoding, room_number, lent_by, drawn_by}
 use Rattle.byte_checks.specs.Numbers.{first_in}
+use Rattle.byte_checks.proofs.JudgedLaws.{first-number}
 use Rattle.byte_baking.specs.Output.{output_of}
 use Rattle.byte_bake.proofs.BytesLaws.{refused-bytes, long-enough, baked-bytes, same-time}
 use Rattle.byte_bake.proofs.scenes.bake_bytes.Goals as goal
@@ -27,7 +28,7 @@ returns-in_err-check_first-clause-baked c =
     let drawn : number_drawn c.check_room-drawn.result ≡ drawn_by b d
     = c.check_room-drawn.ensures ∙ (λ j. room_number (length b.words / 4) (c.count_of-count.ensures j) d) in
     let e = c.in_err-check_first.field-0.0 in
-    let n = c.in_err-check_first.ensures
+    let n = first-number _ _ _ _ a.node _ c.in_err-check_first.ensures
     ∙ (λ j. first_in (drawn j) (lent_by b l.header) a.node (c.from_bits-time.ensures j) (c.space_in-space.ensures j)) in
     rw (passed-on _ e c.from_residual.ensures.1) (refused-bytes b l.header a.node t d r o _ n (not-none e))
 
@@ -46,7 +47,7 @@ bake_decoded-requires c =
     let drawn : number_drawn c.check_room-drawn.result ≡ drawn_by b d
     = c.check_room-drawn.ensures ∙ (λ j. room_number (length b.words / 4) (c.count_of-count.ensures j) d) in
     let n : 0 ≡ first_in (drawn_by b d) (lent_by b l.header) a.node t (room_of r.scratch)
-    = c.in_ok-check_first.ensures
+    = first-number _ _ _ _ a.node _ c.in_ok-check_first.ensures
     ∙ (λ j. first_in (drawn j) (lent_by b l.header) a.node (c.from_bits-time.ensures j) (c.space_in-space.ensures j)) in
     long-enough b l.header a.node t d (record { from = r; to = r }) (record { from = o; to = o }) 0 n refl
 
@@ -65,7 +66,7 @@ returns-clause-baked c =
     let drawn : number_drawn c.check_room-drawn.result ≡ drawn_by b d
     = c.check_room-drawn.ensures ∙ (λ j. room_number (length b.words / 4) (c.count_of-count.ensures j) d) in
     let n : 0 ≡ first_in (drawn_by b d) (lent_by b l.header) a.node t (room_of r.scratch)
-    = c.in_ok-check_first.ensures
+    = first-number _ _ _ _ a.node _ c.in_ok-check_first.ensures
     ∙ (λ j. first_in (drawn j) (lent_by b l.header) a.node (c.from_bits-time.ensures j) (c.space_in-space.ensures j)) in
     baked-bytes b l.header a.node t d _ _ 0 n refl _ _ c.bake_decoded.ensures.float_room_value
     (same-time c.from_bits-time.ensures c.bake_decoded.ensures.baked_in)

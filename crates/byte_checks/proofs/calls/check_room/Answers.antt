@@ -1,6 +1,5 @@
 use mathlib.Core.Path.{◌≡◌, sym, ap, ◌∙◌}
 use Prim.Native.Nat.{ℕ}
-use Rattle.refusals.specs.Drawn.{number_drawn}
 use Rattle.model.specs.Lists.{pick}
 use Rattle.wire.specs.Bytes.{words_in}
 use Rattle.worlds.specs.Rooms.{short_for, short_in}
@@ -11,13 +10,13 @@ returns-then-is_short_for c =
     let a = c.args in
     let short : c.is_short_for.result ≡ short_in (words_in a.words.now) a.graph a.space.walk a.space.poses a.space.worlds
     = c.is_short_for.ensures
-    ∙ ap (λ (n : ℕ). short_for n a.graph a.space.walk a.space.poses a.space.worlds) c.child_entries-children.ensures in
-    sym (λ j. pick ((sym short ∙ c.if-is_short_for.true) j) 6 (number_drawn a.drawn))
+    ∙ ap (λ (n : ℕ). short_for n a.graph a.space.walk a.space.poses a.space.worlds) c.listed_entries-children.ensures in
+    sym (λ j. pick ((sym short ∙ c.if-is_short_for.true) j) 6 0)
 
 pub returns : goal.returns
 returns c =
     let a = c.args in
     let short : c.is_short_for.result ≡ short_in (words_in a.words.now) a.graph a.space.walk a.space.poses a.space.worlds
     = c.is_short_for.ensures
-    ∙ ap (λ (n : ℕ). short_for n a.graph a.space.walk a.space.poses a.space.worlds) c.child_entries-children.ensures in
-    sym (λ j. pick ((sym short ∙ c.if-is_short_for.false) j) 6 (number_drawn a.drawn))
+    ∙ ap (λ (n : ℕ). short_for n a.graph a.space.walk a.space.poses a.space.worlds) c.listed_entries-children.ensures in
+    sym (λ j. pick ((sym short ∙ c.if-is_short_for.false) j) 6 0)

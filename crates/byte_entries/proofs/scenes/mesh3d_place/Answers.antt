@@ -5,6 +5,7 @@ use Rattle.refusals.specs.Drawn.{number_drawn}
 use Rattle.refusals.proofs.Told.{not-none}
 use Rattle.lent_bytes.specs.Bytes.{SceneBytes, Decoding, room_number, lent_by, drawn_by}
 use Rattle.byte_checks.specs.Numbers.{place_in}
+use Rattle.byte_checks.proofs.JudgedLaws.{place-number}
 use Rattle.byte_placing.specs.Placed.{Room, scratch_in}
 use Rattle.byte_entries.proofs.BytesLaws.{refused-bytes, long-enough, placed-bytes}
 use Rattle.byte_entries.proofs.scenes.mesh3d_place.Goals as goal
@@ -17,7 +18,7 @@ returns-in-Err c =
     let r : Room = record { walk = a.walk.now; codes = a.codes.now; matrices = a.matrices.now; places = a.places.now; worlds = a.worlds.now } in
     let drawn : number_drawn c.check_room-drawn.result ≡ drawn_by b d
     = c.check_room-drawn.ensures ∙ (λ j. room_number (length b.words / 4) (c.count_of-count.ensures j) d) in
-    let n = c.in-Err.ensures ∙ (λ j. place_in (drawn j) (lent_by b a.header) (record {
+    let n = place-number _ _ _ _ c.in-Err.ensures ∙ (λ j. place_in (drawn j) (lent_by b a.header) (record {
       walk_room = length r.walk / 2;
       pose_slots = c.min.ensures j;
       world_slots = (c.min-2.ensures ∙ (λ k. min (c.min-number_slots.ensures k) (c.min-world_slots.ensures k / 16))) j;
@@ -33,7 +34,7 @@ place_decoded-requires c =
     let drawn : number_drawn c.check_room-drawn.result ≡ drawn_by b d
     = c.check_room-drawn.ensures ∙ (λ j. room_number (length b.words / 4) (c.count_of-count.ensures j) d) in
     let n : 0 ≡ place_in (drawn_by b d) (lent_by b a.header) (scratch_in a.marks.now a.slots.now r)
-    = c.in_default.ensures ∙ (λ j. place_in (drawn j) (lent_by b a.header) (record {
+    = place-number _ _ _ _ c.in_default.ensures ∙ (λ j. place_in (drawn j) (lent_by b a.header) (record {
       walk_room = length r.walk / 2;
       pose_slots = c.min.ensures j;
       world_slots = (c.min-2.ensures ∙ (λ k. min (c.min-number_slots.ensures k) (c.min-world_slots.ensures k / 16))) j;
@@ -49,7 +50,7 @@ returns c =
     let drawn : number_drawn c.check_room-drawn.result ≡ drawn_by b d
     = c.check_room-drawn.ensures ∙ (λ j. room_number (length b.words / 4) (c.count_of-count.ensures j) d) in
     let n : 0 ≡ place_in (drawn_by b d) (lent_by b a.header) (scratch_in a.marks.now a.slots.now r)
-    = c.in_default.ensures ∙ (λ j. place_in (drawn j) (lent_by b a.header) (record {
+    = place-number _ _ _ _ c.in_default.ensures ∙ (λ j. place_in (drawn j) (lent_by b a.header) (record {
       walk_room = length r.walk / 2;
       pose_slots = c.min.ensures j;
       world_slots = (c.min-2.ensures ∙ (λ k. min (c.min-number_slots.ensures k) (c.min-world_slots.ensures k / 16))) j;

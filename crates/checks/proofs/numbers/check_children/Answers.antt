@@ -8,5 +8,5 @@ unfolding children_number
 returns g c =
     let a = c.args in
     c.check_entries.ensures
-    ∙ ap entries_number c.child_entries.ensures
+    ∙ ap entries_number c.listed_entries.ensures
     ∙ capped-number (sum_below a.nodes.count (child_count (g.W.Words.said a.words) a.nodes))

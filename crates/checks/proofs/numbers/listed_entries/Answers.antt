@@ -4,7 +4,7 @@ use borrow.Author.Rules.{rules}
 use native.Mathlib.Omega.{arith}
 use Rattle.checks.proofs.Lowest.{sum_more}
 use Rattle.checks.specs.Drawn.{entry_cap, sum_below, child_count}
-use Rattle.checks.proofs.numbers.child_entries.Goals as goal
+use Rattle.checks.proofs.numbers.listed_entries.Goals as goal
 
 pub loop-i-init : goal.loop-i-init
 unfolding sum_below
