@@ -3,12 +3,11 @@
 #![tactic(auto)]
 
 use std::io;
-use std::io::Read;
 
 fn main(rt: HostRuntime) -> io::Result<()> {
-    let mut text = Vec::new(rt.alloc());
-    rt.stdin().take(65537).read_to_end(&mut text)?;
+    let mut text = [0u8; 65537];
     let mut out = [0u8; 65536];
-    let end = text_baking::bake_text(&text, &mut out);
+    let got = lists::read_full(&mut rt.stdin(), &mut text)?;
+    let end = text_baking::bake_text(&text[..got], &mut out);
     rt.stdout().write_all(&out[..end])
 }

@@ -29,11 +29,8 @@ is_behind b = eqb b 32 || eqb b 10
 abbrev pub is_field : List ℕ → ℕ → Bool
 is_field s from = are_digits s from 8 && is_behind (get_or s (from + 8) 0)
 
--- the value of a digit, the number that bytes spell, and of more than eight digits that of the last eight; there is none
--- where a byte is no digit
-abbrev pub digit_in : ℕ → Option ℕ
-digit_in b = pick (is_digit b) (Some (digit_of b)) None
-
+-- the number that bytes spell, and of more than eight digits that of the last eight; there is none where a byte is no
+-- digit
 abbrev pub number_of : List ℕ → Option ℕ
 number_of s = pick (are_digits s 0 (length s)) (Some (spelled s 0 (length s))) None
 

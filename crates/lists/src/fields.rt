@@ -1,14 +1,31 @@
 // Fields that were read, one after the other. A list is its count and then its entries, a field each. Reading that
 // lacks a field goes past all fields and stays there, so what was read is whole where it ends just behind the last
 // field. A damaged list is replayed as far as it goes, so a field that lacks is 0, and no error.
-ghost use Rattle.std.specs.Prelude.{◌≡◌, ◌<◌, ◌↔◌, IsTrue, IfOk, length, get_or, take, eqb};
+ghost use Rattle.std.specs.Prelude.{◌≡◌, ◌<◌, ◌↔◌, IsTrue, length, get_or, take, eqb};
 ghost use Rattle.float.specs.F32.{f32};
 ghost use Rattle.comparing.specs.Compared.{same_words, same_floats};
-ghost use Rattle.lists.specs.Fields.{past_of, ahead_of, behind_list, list_at, floats_at};
+ghost use Rattle.lists.specs.Fields.{past_of, ahead_of, behind_list, list_at, floats_of, floats_at, Copies};
 ghost use Rattle.lists.specs.Moves.{MovesTo};
 
 use comparing::{floats_agree, words_agree};
-use std::alloc::{AllocError, Global};
+
+fn copy_words(words: &[u32], out: &mut [u32]) -> usize
+    ensures { Copies words.now out result }
+{
+    let n = words.len().min(out.len());
+    out[..n].copy_from_slice(&words[..n]);
+    n
+}
+
+fn copy_floats(bits: &[u32], out: &mut [f32]) -> usize
+    ensures { Copies (floats_of bits.now) out result }
+{
+    let n = bits.len().min(out.len());
+    for i in 0..n {
+        out[i] = float::from_bits(bits[i]);
+    }
+    n
+}
 
 // The fields, and the place of the next one.
 #[derive(Clone, Copy)]
@@ -94,23 +111,22 @@ impl<'a> Fields<'a> {
         &rest[..count.min(rest.len())]
     }
 
-    // These as far as there is room, as words and as the bits of floats.
-    pub fn words(&mut self, alloc: Global, room: usize) -> Result<Vec<u32>, AllocError>
-        ensures value { IfOk result (λ words. words.items ≡ take room (list_at self.old.all.now self.old.at)) }
-        ensures moves { MovesTo self.old self.new (behind_list self.old.all.now self.old.at room) }
+    // Copies these to the start of `out` as far as there is room, as words and as the bits of floats, and answers how
+    // many.
+    pub fn words(&mut self, out: &mut [u32]) -> usize
+        ensures value { Copies (list_at self.old.all.now self.old.at) out result }
+        ensures first { take result out.new ≡ take (length out.old) (list_at self.old.all.now self.old.at) }
+        ensures moves { MovesTo self.old self.new (behind_list self.old.all.now self.old.at (length out.old)) }
     {
-        self.list(room).iter().take(room).copied().collect(alloc)
+        copy_words(self.list(out.len()), out)
     }
 
-    pub fn floats(&mut self, alloc: Global, room: usize) -> Result<Vec<f32>, AllocError>
-        ensures value { IfOk result (λ floats. floats.items ≡ take room (floats_at self.old.all.now self.old.at)) }
-        ensures moves { MovesTo self.old self.new (behind_list self.old.all.now self.old.at room) }
+    pub fn floats(&mut self, out: &mut [f32]) -> usize
+        ensures value { Copies (floats_at self.old.all.now self.old.at) out result }
+        ensures first { take result out.new ≡ take (length out.old) (floats_at self.old.all.now self.old.at) }
+        ensures moves { MovesTo self.old self.new (behind_list self.old.all.now self.old.at (length out.old)) }
     {
-        self.list(room)
-            .iter()
-            .map(|bits| float::from_bits(*bits))
-            .take(room)
-            .collect(alloc)
+        copy_floats(self.list(out.len()), out)
     }
 
     // Whether a number that was found is the next field.

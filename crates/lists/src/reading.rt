@@ -1,79 +1,105 @@
 // Fields of a reader: eight hexadecimal digits with a blank or a line's end behind them.
-ghost use Rattle.std.specs.Prelude.{◌≡◌, IfOk, IfSome, None, MatchOption, take};
-ghost use Rattle.lists.specs.Inputs.{room_for, HasFields};
-ghost use Rattle.lists.specs.Digits.{is_behind, field_in, NextField};
+ghost use Rattle.std.specs.Prelude.{◌≡◌, ℕ, ◌+◌, ◌*◌, ◌<◌, ◌≤◌, IfOk, OnErr, IfSome, length, take, drop};
+ghost use Rattle.std.specs.Io.{ReadsAtMost};
+ghost use Rattle.std.specs.Io.KnownBytes.{Consumes, IsAtEnd};
+ghost use Rattle.lists.specs.Fields.{Puts};
+ghost use Rattle.lists.specs.Inputs.{next_of, is_end, Leads, FewerBy, HasFields};
 
-use crate::digits::word;
-use std::alloc::{AllocError, Global};
+use crate::digits::field_in;
 use std::io;
 use std::io::Read;
 
-// The fields of an input, and whether these are all of it. Those of a damaged input are replayed too, so this is no
-// Result.
-#[derive(Drop)]
+// How many fields the input has, and whether these are all of it. Those of a damaged input are replayed too, so this is
+// no Result.
+#[derive(Clone, Copy)]
 pub struct Input {
-    pub fields: Vec<u32>,
+    pub count: usize,
     pub whole: bool,
 }
 
-fn is_behind(b: u8) -> bool
-    ensures { result ≡ is_behind b }
+// One read, to a place on.
+fn read_at<R: Read>(input: &mut R, buf: &mut [u8], at: usize) -> io::Result<usize>
+    requires { at < length buf.old }
+    ensures front { take at buf.new ≡ take at buf.old }
+    ensures fits { IfOk result (λ n. at + n ≤ length buf.new) }
+    ensures bytes { IfOk result (λ n. Consumes (R.remaining input.old) (R.remaining input.new)
+        (take n (drop at buf.new))) }
+    ensures end { IfOk result (λ n. n ≡ 0 → IsAtEnd (R.remaining input.new)) }
 {
-    b == b' ' || b == b'\n'
+    input.read(&mut buf[at..])
 }
 
-// The word of a field.
-fn field_in(text: &[u8]) -> Option<u32>
-    ensures { result ≡ field_in text.now }
+// Reads until `buf` is full or the input ends, and answers how many bytes stand at its start.
+pub fn read_full<R: Read>(input: &mut R, buf: &mut [u8]) -> io::Result<usize>
+    ensures bound { ReadsAtMost result buf.new }
+    ensures bytes { IfOk result (λ n. Consumes (R.remaining input.old) (R.remaining input.new) (take n buf.new)) }
+    ensures end { IfOk result (λ n. n < length buf.new → IsAtEnd (R.remaining input.new)) }
 {
-    if text.len() == 9 && is_behind(text[8]) {
-        word(&text[..8])
-    } else {
-        None
-    }
-}
-
-// The field that a text begins with, and the text behind it.
-fn next_field(text: &[u8]) -> Option<(u32, &[u8])>
-    ensures { MatchOption result (field_in (take 9 text.now) ≡ None) (λ p. NextField text.now p.0 p.1.now) }
-{
-    let (field, rest) = text.split_at_checked(9)?;
-    Some((field_in(field)?, rest))
-}
-
-impl Input {
-    // The first fields of a text, to bytes that are none.
-    fn parse(alloc: Global, text: &[u8], most: usize) -> Result<Self, AllocError>
-        ensures { IfOk result (HasFields text.now most) }
-    {
-        let mut fields = Vec::new(alloc);
-        let mut rest = text;
-        for _done in 0..most {
-            let Some((word, behind)) = next_field(rest) else {
-                break;
-            };
-            fields.push(word)?;
-            rest = behind;
+    let mut done = 0;
+    while done < buf.len() {
+        let n = read_at(input, buf, done)?;
+        if n == 0 {
+            break;
         }
-        let whole = rest.is_empty();
-        Ok(Input { fields, whole })
+        done += n;
+    }
+    Ok(done)
+}
+
+// What nine bytes of the input say, or as many as there are up to its end.
+#[derive(Clone, Copy)]
+enum Next {
+    Field(u32),
+    End,
+    Other,
+}
+
+impl Next {
+    fn of(text: &[u8]) -> Self
+        ensures { result ≡ next_of text.now }
+    {
+        match field_in(text) {
+            Some(word) => Next::Field(word),
+            None if text.is_empty() => Next::End,
+            None => Next::Other,
+        }
+    }
+
+    fn read<R: Read>(input: &mut R) -> io::Result<Self>
+        ensures { IfOk result (Leads (R.remaining input.old) (R.remaining input.new)) }
+    {
+        let mut text = [0u8; 9];
+        let count = read_full(input, &mut text)?;
+        Ok(Next::of(&text[..count]))
+    }
+
+    fn is_end(self) -> bool
+        ensures { result ≡ is_end self }
+    {
+        matches!(self, Next::End)
     }
 }
 
-// Reads up to `most` bytes.
-pub fn read_bytes<R: Read + Drop>(alloc: Global, input: R, most: u64) -> io::Result<Vec<u8>>
-    ensures { IfOk result (λ bytes. IfSome (R.remaining input) (λ all. bytes.items ≡ take most all)) }
+// Reads fields to the start of `out`, to the end of the input, to bytes that are none or as far as there is room. Where
+// a read fails, the fields before it stand there.
+pub fn read_fields<R: Read>(input: &mut R, out: &mut [u32]) -> io::Result<Input>
+    ensures ok { IfOk result (λ fields. Puts out fields.count) }
+    ensures err { OnErr result ((n : ℕ) × Puts out n) }
+    ensures known { IfOk result (λ fields. IfSome (R.remaining input.old) (λ all. HasFields all out.new fields)) }
+    ensures taken { IfOk result (λ fields. FewerBy (R.remaining input.old) (R.remaining input.new)
+        (9 * (fields.count + 1))) }
 {
-    let mut bytes = Vec::new(alloc);
-    input.take(most).read_to_end(&mut bytes)?;
-    Ok(bytes)
-}
-
-// Reads fields, to the end of the input, to bytes that are none or up to `most` of them.
-pub fn read_fields<R: Read + Drop>(alloc: Global, input: R, most: usize) -> io::Result<Input>
-    ensures { IfOk result (λ i. IfSome (R.remaining input) (λ all. HasFields (take (room_for most) all) most i)) }
-{
-    let room = (most as u64).saturating_add(1).saturating_mul(9);
-    let text = read_bytes(alloc, input, room)?;
-    Ok(Input::parse(alloc, &text, most)?)
+    for count in 0..out.len() {
+        let next = Next::read(input)?;
+        let Next::Field(word) = next else {
+            let whole = next.is_end();
+            return Ok(Input { count, whole });
+        };
+        out[count] = word;
+    }
+    let whole = Next::read(input)?.is_end();
+    Ok(Input {
+        count: out.len(),
+        whole,
+    })
 }

@@ -2,7 +2,7 @@
 ghost use Rattle.std.specs.Prelude.{◌≡◌};
 ghost use Rattle.replay.specs.Lines.{question_of, line_in, is_right};
 
-use lists::{TURN_GAP, hexadecimal, word};
+use lists::{TURN_GAP, number_in, word_in};
 
 #[derive(Clone, Copy)]
 pub enum Question {
@@ -34,10 +34,10 @@ impl Line {
     pub fn parse(text: &[u8; 28]) -> Option<Self>
         ensures { result ≡ line_in text.now }
     {
-        let double = hexadecimal(&text[2..18])?;
-        let first = word(&text[2..10])?;
-        let second = word(&text[10..18])?;
-        let answer = word(&text[19..27])?;
+        let double = number_in(&text[2..18])?;
+        let first = word_in(&text[2..10])?;
+        let second = word_in(&text[10..18])?;
+        let answer = word_in(&text[19..27])?;
         if text[1] != b' ' || text[18] != b' ' || text[27] != b'\n' {
             return None;
         }

@@ -10,6 +10,7 @@ mod line;
 use line::{Line, Question};
 use lists::Tally;
 use std::io;
+use std::io::Read;
 
 // How many lines the list has, and the bytes of one.
 const LINES: usize = 5000;
@@ -65,15 +66,22 @@ impl Report {
     }
 }
 
+// Reports the lines, and answers whether the input is so many and nothing else.
+fn replay<R: Read>(input: &mut R, report: &mut Report) -> io::Result<bool> {
+    let mut line = [0u8; LINE_LENGTH];
+    for _ in 0..LINES {
+        if lists::read_full(input, &mut line)? != LINE_LENGTH {
+            return Ok(false);
+        }
+        report.add(&line);
+    }
+    Ok(lists::read_full(input, &mut line)? == 0)
+}
+
 fn main(rt: HostRuntime) -> io::Result<()> {
     let out = rt.stdout();
-    let length = LINES * LINE_LENGTH;
-    let text = lists::read_bytes(rt.alloc(), rt.stdin(), length as u64 + 1)?;
     let mut report = Report::new();
-    let (lines, _) = text.as_slice().as_chunks::<LINE_LENGTH>();
-    for line in lines {
-        report.add(line);
-    }
+    let whole = replay(&mut rt.stdin(), &mut report)?;
     report.print(&out)?;
-    lists::print_verdict(&out, report.is_good() && text.len() == length)
+    lists::print_verdict(&out, whole && report.is_good())
 }

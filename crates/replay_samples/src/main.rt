@@ -69,10 +69,11 @@ impl Report {
 
 fn main(rt: HostRuntime) -> io::Result<()> {
     let out = rt.stdout();
-    let input = lists::read_fields(rt.alloc(), rt.stdin(), ROOM)?;
-    let mut fields = Fields::new(&input.fields);
+    let mut room = [0u32; ROOM];
+    let input = lists::read_fields(&mut rt.stdin(), &mut room)?;
+    let mut fields = Fields::new(&room[..input.count]);
     let mut report = Report::new();
-    for _ in 0..input.fields.len().div_ceil(LINE_FIELDS) {
+    for _ in 0..input.count.div_ceil(LINE_FIELDS) {
         report.add(&Line::read(&mut fields));
     }
     report.print(&out)?;

@@ -3,7 +3,6 @@
 use crate::{nodes, skins, vertices};
 use lists::Fields;
 use scene_lists::Scene;
-use std::alloc::{AllocError, Global};
 use std::fmt;
 
 #[derive(Clone, Copy, PartialEq, Eq, Debug)]
@@ -56,33 +55,28 @@ impl fmt::Display for Call {
     }
 }
 
-fn replay_bake(alloc: Global, scene: &Scene, fields: &mut Fields) -> Result<bool, AllocError> {
-    let outcome = scene.replay_bake(alloc, fields)?;
-    Ok(outcome.told && outcome.floats.differ == 0)
+fn replay_bake(scene: Scene, fields: &mut Fields) -> bool {
+    let outcome = scene.replay_bake(fields);
+    outcome.told && outcome.floats.differ == 0
 }
 
 // Answers whether the call is as the fields say. One that is not known is past all fields: nobody knows how much stands
 // behind it.
-pub fn replay(
-    alloc: Global,
-    call: Option<Call>,
-    scene: &Scene,
-    fields: &mut Fields,
-) -> Result<bool, AllocError> {
+pub fn replay(call: Option<Call>, scene: Scene, fields: &mut Fields) -> bool {
     let Some(call) = call else {
         fields.go_past();
-        return Ok(false);
+        return false;
     };
     match call {
-        Call::Parents => nodes::replay_parents(alloc, scene, fields),
-        Call::Pose => nodes::replay_pose(alloc, scene, fields),
-        Call::Places => nodes::replay_places(alloc, scene, fields),
-        Call::Palette => skins::replay_palette(alloc, scene, fields),
-        Call::Root => Ok(skins::replay_root(scene, fields)),
-        Call::Weights => Ok(skins::replay_weights(scene, fields)),
-        Call::Bake => replay_bake(alloc, scene, fields),
-        Call::Transformed => vertices::replay_transformed(alloc, fields),
-        Call::Skinned => vertices::replay_skinned(alloc, fields),
-        Call::Morphed => vertices::replay_morphed(alloc, scene, fields),
+        Call::Parents => nodes::replay_parents(scene, fields),
+        Call::Pose => nodes::replay_pose(scene, fields),
+        Call::Places => nodes::replay_places(scene, fields),
+        Call::Palette => skins::replay_palette(scene, fields),
+        Call::Root => skins::replay_root(scene, fields),
+        Call::Weights => skins::replay_weights(scene, fields),
+        Call::Bake => replay_bake(scene, fields),
+        Call::Transformed => vertices::replay_transformed(fields),
+        Call::Skinned => vertices::replay_skinned(fields),
+        Call::Morphed => vertices::replay_morphed(scene, fields),
     }
 }

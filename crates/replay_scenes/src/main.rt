@@ -14,36 +14,38 @@ mod vertices;
 use lists::Fields;
 use reports::Report;
 use scene_lists::Scene;
-use std::alloc::{AllocError, Global};
 use std::io;
 
 // For how many fields there is room.
 const ROOM: usize = 140_000;
 
 // A scene of up to 4,096 floats and 64 weights of each sort, and so many calls on it as the next field says.
-fn replay_scene(alloc: Global, fields: &mut Fields, report: &mut Report) -> Result<(), AllocError> {
-    let scene = Scene::read(alloc, fields, 4096, 64)?;
+fn replay_scene(fields: &mut Fields, report: &mut Report) {
+    let mut floats = [0.0f32; 4096];
+    let mut node_weights = [0.0f32; 64];
+    let mut mesh_weights = [0.0f32; 64];
+    let scene = Scene::read(fields, &mut floats, &mut node_weights, &mut mesh_weights);
     for _ in 0..fields.word() {
         if fields.is_past() {
             break;
         }
         let call = calls::call_of(fields.word());
-        let same = calls::replay(alloc, call, &scene, fields)?;
+        let same = calls::replay(call, scene, fields);
         report.add(call, same);
     }
-    Ok(())
 }
 
 fn main(rt: HostRuntime) -> io::Result<()> {
     let out = rt.stdout();
-    let input = lists::read_fields(rt.alloc(), rt.stdin(), ROOM)?;
-    let mut fields = Fields::new(&input.fields);
+    let mut room = [0u32; ROOM];
+    let input = lists::read_fields(&mut rt.stdin(), &mut room)?;
+    let mut fields = Fields::new(&room[..input.count]);
     let mut report = Report::new();
     for _ in 0..fields.word() {
         if fields.is_past() {
             break;
         }
-        replay_scene(rt.alloc(), &mut fields, &mut report)?;
+        replay_scene(&mut fields, &mut report);
     }
     report.print(&out)?;
     lists::print_verdict(&out, input.whole && report.is_good() && fields.is_end())

@@ -4,81 +4,76 @@ use borrowed::Vertices;
 use lists::Fields;
 use scene::Mat4;
 use scene_lists::Scene;
-use std::alloc::{AllocError, Global};
 use tracks::Part;
 use vertex_rows::Influences;
 
-// The vertices that a call moves.
-#[derive(Drop)]
-struct Lists {
-    positions: Vec<f32>,
-    normals: Vec<f32>,
-    tangents: Vec<f32>,
+// The next three lists, lent to a call that changes them.
+fn read_vertices<'a>(
+    fields: &mut Fields,
+    positions: &'a mut [f32],
+    normals: &'a mut [f32],
+    tangents: &'a mut [f32],
+) -> Vertices<'a> {
+    let p = fields.floats(positions);
+    let n = fields.floats(normals);
+    let t = fields.floats(tangents);
+    Vertices {
+        positions: &mut positions[..p],
+        normals: &mut normals[..n],
+        tangents: &mut tangents[..t],
+    }
 }
 
-impl Lists {
-    fn read(alloc: Global, fields: &mut Fields) -> Result<Self, AllocError> {
-        Ok(Lists {
-            positions: fields.floats(alloc, 64)?,
-            normals: fields.floats(alloc, 64)?,
-            tangents: fields.floats(alloc, 64)?,
-        })
-    }
-
-    // The lists, lent to a call that changes them.
-    fn lent(&mut self) -> Vertices<'_> {
-        Vertices {
-            positions: &mut self.positions,
-            normals: &mut self.normals,
-            tangents: &mut self.tangents,
-        }
-    }
-
-    // Whether they are the next three lists.
-    fn are_told(&self, fields: &mut Fields) -> bool {
-        told::has_vertices(fields, &self.positions, &self.normals, &self.tangents)
-    }
+// Whether they are the next three lists.
+fn are_told(v: &Vertices, fields: &mut Fields) -> bool {
+    told::has_vertices(fields, v.positions, v.normals, v.tangents)
 }
 
 // The next list as a matrix, with zeros where entries lack.
 fn matrix(fields: &mut Fields) -> Mat4 {
     let mut m = [0.0f32; 16];
-    for (x, bits) in m.iter_mut().zip(fields.list(16)) {
-        *x = float::from_bits(*bits);
-    }
+    fields.floats(&mut m);
     Mat4 { m }
 }
 
-pub fn replay_transformed(alloc: Global, fields: &mut Fields) -> Result<bool, AllocError> {
-    let mut v = Lists::read(alloc, fields)?;
-    transform::transformed(matrix(fields), &mut v.lent());
-    Ok(v.are_told(fields))
+pub fn replay_transformed(fields: &mut Fields) -> bool {
+    let mut positions = [0.0f32; 64];
+    let mut normals = [0.0f32; 64];
+    let mut tangents = [0.0f32; 64];
+    let mut v = read_vertices(fields, &mut positions, &mut normals, &mut tangents);
+    transform::transformed(matrix(fields), &mut v);
+    are_told(&v, fields)
 }
 
-pub fn replay_skinned(alloc: Global, fields: &mut Fields) -> Result<bool, AllocError> {
-    let mut v = Lists::read(alloc, fields)?;
-    let palette = fields.floats(alloc, 96)?;
+pub fn replay_skinned(fields: &mut Fields) -> bool {
+    let mut positions = [0.0f32; 64];
+    let mut normals = [0.0f32; 64];
+    let mut tangents = [0.0f32; 64];
+    let mut v = read_vertices(fields, &mut positions, &mut normals, &mut tangents);
+    let mut palette = [0.0f32; 96];
+    let mut weights = [0.0f32; 64];
+    let p = fields.floats(&mut palette);
     let joints = fields.list(64);
-    let weights = fields.floats(alloc, 64)?;
+    let w = fields.floats(&mut weights);
     let by = Influences {
-        palette: &palette,
+        palette: &palette[..p],
         joints,
-        weights: &weights,
+        weights: &weights[..w],
     };
-    skinning::skinned(by, &mut v.lent());
-    Ok(v.are_told(fields))
+    skinning::skinned(by, &mut v);
+    are_told(&v, fields)
 }
 
-pub fn replay_morphed(
-    alloc: Global,
-    scene: &Scene,
-    fields: &mut Fields,
-) -> Result<bool, AllocError> {
-    let mut v = Lists::read(alloc, fields)?;
+pub fn replay_morphed(scene: Scene, fields: &mut Fields) -> bool {
+    let mut positions = [0.0f32; 64];
+    let mut normals = [0.0f32; 64];
+    let mut tangents = [0.0f32; 64];
+    let mut v = read_vertices(fields, &mut positions, &mut normals, &mut tangents);
     let at = fields.number();
     let count = fields.number();
     let targets = Part { at, count };
-    let weights = fields.floats(alloc, 16)?;
-    mesh::morphed(scene.lent(), targets, &weights, &mut v.lent());
-    Ok(v.are_told(fields))
+    let mut weights = [0.0f32; 16];
+    let w = fields.floats(&mut weights);
+    mesh::morphed(scene.lent(), targets, &weights[..w], &mut v);
+    are_told(&v, fields)
 }

@@ -1,7 +1,6 @@
 // A bake of a sample, done, compared and printed.
 use lists::{Decimal, Fields};
 use scene_lists::{Outcome, Scene};
-use std::alloc::Global;
 use std::io;
 
 // An output has room for so many vertices.
@@ -53,13 +52,8 @@ fn print_vertices(out: &impl Print, outcome: &Outcome, vertices: u32) -> io::Res
 }
 
 // The next bake, with how many of its vertices are printed behind it. Answers whether it is as the fields say.
-pub fn replay(
-    out: &impl Print,
-    alloc: Global,
-    scene: &Scene,
-    fields: &mut Fields,
-) -> io::Result<bool> {
-    let outcome = scene.replay_bake(alloc, fields)?;
+pub fn replay(out: &impl Print, scene: Scene, fields: &mut Fields) -> io::Result<bool> {
+    let outcome = scene.replay_bake(fields);
     let vertices = fields.word();
     print_outcome(out, &outcome)?;
     if vertices <= VERTICES {

@@ -8,7 +8,6 @@ mod bakes;
 
 use lists::{Fields, Tally};
 use scene_lists::Scene;
-use std::alloc::Global;
 use std::io;
 
 // For how many fields there is room.
@@ -18,30 +17,33 @@ const ROOM: usize = 8192;
 // the tally with these.
 fn replay_sample(
     out: &impl Print,
-    alloc: Global,
     name: &str,
     fields: &mut Fields,
     so_far: Tally,
 ) -> io::Result<Tally> {
     println!(out; "{name}")?;
-    let scene = Scene::read(alloc, fields, 2048, 16)?;
+    let mut floats = [0.0f32; 2048];
+    let mut node_weights = [0.0f32; 16];
+    let mut mesh_weights = [0.0f32; 16];
+    let scene = Scene::read(fields, &mut floats, &mut node_weights, &mut mesh_weights);
     let mut tally = so_far;
     for _ in 0..fields.word() {
         if fields.is_past() {
             break;
         }
-        tally = tally.with(bakes::replay(out, alloc, &scene, fields)?);
+        tally = tally.with(bakes::replay(out, scene, fields)?);
     }
     Ok(tally)
 }
 
 fn main(rt: HostRuntime) -> io::Result<()> {
     let out = rt.stdout();
-    let input = lists::read_fields(rt.alloc(), rt.stdin(), ROOM)?;
-    let mut fields = Fields::new(&input.fields);
+    let mut room = [0u32; ROOM];
+    let input = lists::read_fields(&mut rt.stdin(), &mut room)?;
+    let mut fields = Fields::new(&room[..input.count]);
     let mut tally = Tally::new();
     for name in ["simple_skin", "AnimatedMorphCube"] {
-        tally = replay_sample(&out, rt.alloc(), name, &mut fields, tally)?;
+        tally = replay_sample(&out, name, &mut fields, tally)?;
     }
     println!(out; "bakes: {tally}")?;
     lists::print_verdict(&out, input.whole && tally.all_same() && fields.is_end())

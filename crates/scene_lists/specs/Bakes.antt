@@ -1,5 +1,5 @@
 -- A bake in fields: what it is asked for, and what it is to answer and leave. Definitions only.
-use Rattle.std.specs.Prelude.{◌≡◌, Bool, ◌&&◌, List, ℕ, ◌+◌, eqb, Float, get_or, take, replicate}
+use Rattle.std.specs.Prelude.{◌≡◌, Bool, ◌&&◌, List, ◌++◌, ℕ, ◌+◌, ◌-◌, eqb, Float, length, get_or, take, replicate}
 use Rattle.float.specs.F32.{f32, zero32}
 use Rattle.float.specs.F64.{f64, zero64}
 use Rattle.borrowed.specs.Slices.{Change}
@@ -118,9 +118,13 @@ pub record Compares (l : Lent) (fields : List ℕ) (at : ℕ) (lent : Output) (a
       floats ≡ outputs_compared left.positions left.normals left.tangents fields (left_at fields at)
       (asked_at fields at).most
 
+-- an array of 96 has these, and zeros behind them
+abbrev pub Padded : List Float → List Float → Type 0
+Padded xs array = array ≡ xs ++ replicate (96 - length xs) zero32
+
 -- the bake at a place: behind the outputs as they are lent stands what is asked
 pub record Replayed (l : Lent) (fields : List ℕ) (at : ℕ) (o : Outcome) : Type 0 where
   pub compares : Compares l fields (behind_outputs fields at) (outputs_at fields at) o.answer o.told o.floats
   pub time : o.time ≡ (asked_at fields (behind_outputs fields at)).time
-  pub positions : o.positions.items ≡ (output_left l fields (behind_outputs fields at) (outputs_at fields at)).positions
-  pub normals : o.normals.items ≡ (output_left l fields (behind_outputs fields at) (outputs_at fields at)).normals
+  pub positions : Padded (output_left l fields (behind_outputs fields at) (outputs_at fields at)).positions o.positions
+  pub normals : Padded (output_left l fields (behind_outputs fields at) (outputs_at fields at)).normals o.normals

@@ -42,17 +42,17 @@ pub record Places : Type 0 where
   pub mesh_weights : ℕ
   pub end : ℕ
 
--- behind the 18 fields of the header the lists words, floats, node weights and mesh weights
-abbrev pub places_at : List ℕ → ℕ → ℕ → ℕ → Places
-places_at fields at room weights =
+-- behind the 18 fields of the header the lists words, floats, node weights and mesh weights, with room for so many
+abbrev pub places_at : List ℕ → ℕ → ℕ → ℕ → ℕ → Places
+places_at fields at room own mesh =
     let words = ahead_of fields at 18 in
     let floats = behind_list fields words (length fields) in
     let node_weights = behind_list fields floats room in
-    let mesh_weights = behind_list fields node_weights weights in
+    let mesh_weights = behind_list fields node_weights own in
     record {
       words = words;
       floats = floats;
       node_weights = node_weights;
       mesh_weights = mesh_weights;
-      end = behind_list fields mesh_weights weights;
+      end = behind_list fields mesh_weights mesh;
     }

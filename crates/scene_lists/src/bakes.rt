@@ -1,7 +1,7 @@
 // A bake, done and compared with the one that stands in the fields: the lists of positions, normals and tangents as
 // they are lent; node, time and whether a Linear turn is between its keys; the list of the walk room; the answer; the
 // three lists as they are left. An output has up to 96 floats, the walk room up to 64 words.
-ghost use Rattle.std.specs.Prelude.{◌≡◌, IfOk};
+ghost use Rattle.std.specs.Prelude.{◌≡◌};
 ghost use Rattle.bake.specs.Baked.{output_room};
 ghost use Rattle.lists.specs.Fields.{ahead_of};
 ghost use Rattle.lists.specs.Moves.{MovesTo};
@@ -14,7 +14,6 @@ use bake::Answer;
 use borrowed::Vertices;
 use comparing::Agreement;
 use lists::Fields;
-use std::alloc::{AllocError, Global};
 use worlds::Room;
 
 // What a bake is asked for: the node, the time, and how far a float may lie from the Rust's.
@@ -27,14 +26,14 @@ struct Asked {
 
 // How a bake went: the time, what it answered, whether that is the Rust's answer, how the floats that it left agree,
 // and the first two outputs.
-#[derive(Drop)]
+#[derive(Clone, Copy)]
 pub struct Outcome {
     pub time: f32,
     pub answer: Answer,
     pub told: bool,
     pub floats: Agreement,
-    pub positions: Vec<f32>,
-    pub normals: Vec<f32>,
+    pub positions: [f32; 96],
+    pub normals: [f32; 96],
 }
 
 fn allowed(turns: u32) -> f64
@@ -140,33 +139,43 @@ impl Scene<'_> {
     }
 
     // Does the next bake and compares.
-    pub fn replay_bake(&self, alloc: Global, fields: &mut Fields) -> Result<Outcome, AllocError>
-        ensures value { IfOk result (Replayed (lent_of self.now) fields.old.all.now fields.old.at) }
-        ensures moves { IfOk result (λ _. MovesTo fields.old fields.new
+    pub fn replay_bake(&self, fields: &mut Fields) -> Outcome
+        ensures value { Replayed (lent_of self.now) fields.old.all.now fields.old.at result }
+        ensures moves { MovesTo fields.old fields.new
             (behind_outputs fields.old.all.now (left_at fields.old.all.now
-            (behind_outputs fields.old.all.now fields.old.at)))) }
+            (behind_outputs fields.old.all.now fields.old.at))) }
     {
-        let mut positions = fields.floats(alloc, 96)?;
-        let mut normals = fields.floats(alloc, 96)?;
-        let mut tangents = fields.floats(alloc, 96)?;
+        let mut positions = [0.0f32; 96];
+        let mut normals = [0.0f32; 96];
+        let mut tangents = [0.0f32; 96];
+        let mut walk = [0u32; 64];
+        let p = fields.floats(&mut positions);
+        let n = fields.floats(&mut normals);
+        let t = fields.floats(&mut tangents);
         let asked = Asked::read(fields);
-        let mut walk = fields.words(alloc, 64)?;
+        let w = fields.words(&mut walk);
         let answer = self.bake(
             asked,
-            &mut walk,
-            &mut positions,
-            &mut normals,
-            &mut tangents,
+            &mut walk[..w],
+            &mut positions[..p],
+            &mut normals[..n],
+            &mut tangents[..t],
         );
         let told = is_told(answer, right_answer(fields));
-        let floats = compare_outputs(fields, &positions, &normals, &tangents, asked.most);
-        Ok(Outcome {
+        let floats = compare_outputs(
+            fields,
+            &positions[..p],
+            &normals[..n],
+            &tangents[..t],
+            asked.most,
+        );
+        Outcome {
             time: asked.time,
             answer,
             told,
             floats,
             positions,
             normals,
-        })
+        }
     }
 }

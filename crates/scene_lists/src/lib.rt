@@ -7,4 +7,5 @@ mod headers;
 mod scenes;
 
 pub use bakes::{Outcome, is_told};
+pub use headers::header;
 pub use scenes::Scene;

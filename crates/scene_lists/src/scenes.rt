@@ -1,17 +1,16 @@
 // A scene: behind its header the lists words, floats, node weights and mesh weights.
-ghost use Rattle.std.specs.Prelude.{◌≡◌, IfOk};
+ghost use Rattle.std.specs.Prelude.{◌≡◌, length};
 
 use crate::headers::header;
 use lists::Fields;
-use std::alloc::{AllocError, Global};
 use tables::{Header, Lent};
 
-#[derive(Drop)]
+#[derive(Clone, Copy)]
 pub struct Scene<'a> {
     pub words: &'a [u32],
-    pub floats: Vec<f32>,
-    pub node_weights: Vec<f32>,
-    pub mesh_weights: Vec<f32>,
+    pub floats: &'a [f32],
+    pub node_weights: &'a [f32],
+    pub mesh_weights: &'a [f32],
     pub header: Header,
 }
 
@@ -21,39 +20,41 @@ impl<'a> Scene<'a> {
     ghost use Rattle.scene_lists.specs.Scenes.{places_at};
     ghost use Rattle.scene_lists.specs.Lent.{lent_of, lent_at};
 
-    // With room for so many floats, and weights of each sort.
-    pub fn read(
-        alloc: Global,
-        fields: &mut Fields<'a>,
-        room: usize,
-        weights: usize,
-    ) -> Result<Self, AllocError>
-        ensures scene { IfOk result (λ s. lent_of s ≡ lent_at fields.old.all.now fields.old.at room weights) }
-        ensures moves { IfOk result (λ _. MovesTo fields.old fields.new
-            (places_at fields.old.all.now fields.old.at room weights).end) }
+    // With room for its floats, and weights of each sort.
+    pub fn read<'f: 'a>(
+        fields: &mut Fields<'f>,
+        floats: &'a mut [f32],
+        node_weights: &'a mut [f32],
+        mesh_weights: &'a mut [f32],
+    ) -> Self
+        ensures scene { lent_of result ≡ lent_at fields.old.all.now fields.old.at
+            (length floats.old) (length node_weights.old) (length mesh_weights.old) }
+        ensures moves { MovesTo fields.old fields.new (places_at fields.old.all.now fields.old.at
+            (length floats.old) (length node_weights.old) (length mesh_weights.old)).end }
     {
         let header = header(fields);
         let words = fields.list(fields.all.len());
-        let floats = fields.floats(alloc, room)?;
-        let node_weights = fields.floats(alloc, weights)?;
-        let mesh_weights = fields.floats(alloc, weights)?;
-        Ok(Scene {
+        let f = fields.floats(floats);
+        let n = fields.floats(node_weights);
+        let m = fields.floats(mesh_weights);
+        Scene {
             words,
-            floats,
-            node_weights,
-            mesh_weights,
+            floats: &floats[..f],
+            node_weights: &node_weights[..n],
+            mesh_weights: &mesh_weights[..m],
             header,
-        })
+        }
     }
+
     // What it lends.
     pub fn lent(&self) -> Lent<'_>
         ensures { decoded.lent_of result ≡ lent_of self.now }
     {
         Lent {
             words: self.words,
-            floats: &self.floats,
-            node_weights: &self.node_weights,
-            mesh_weights: &self.mesh_weights,
+            floats: self.floats,
+            node_weights: self.node_weights,
+            mesh_weights: self.mesh_weights,
             header: self.header,
         }
     }

@@ -7,7 +7,6 @@ ghost use Rattle.std.specs.Prelude.{◌≤◌, length};
 
 use scene_forms::Tables;
 use std::io;
-use std::io::Read;
 use tables::Lent;
 
 // The place of the next '%', or the end.
@@ -80,14 +79,12 @@ fn answer(out: &impl Print, text: &[u8]) -> io::Result<()> {
 
 fn main(rt: HostRuntime) -> io::Result<()> {
     let out = rt.stdout();
-    let mut texts = Vec::new(rt.alloc());
-    rt.stdin().take(32768).read_to_end(&mut texts)?;
-    let got = texts.len();
-    if 32768 <= got {
+    // A last text with no '%' goes on with zeros.
+    let mut texts = [0u8; 32768];
+    let got = lists::read_full(&mut rt.stdin(), &mut texts)?;
+    if got == 32768 {
         return println!(out; "too many texts: 32768 bytes or more");
     }
-    // A last text with no '%' goes on with zeros.
-    texts.resize(32768, 0)?;
     let mut at = 0;
     // A `while`, since it goes on from what was read, by its length.
     while at < got {

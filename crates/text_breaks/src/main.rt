@@ -6,7 +6,6 @@ ghost use Rattle.std.specs.Prelude.{◌≤◌};
 
 use lines::Spot;
 use std::io;
-use std::io::Read;
 use words::{print, print_number};
 
 mod lines;
@@ -162,13 +161,13 @@ fn report(out: &impl Print, text: &[u8]) -> io::Result<()> {
 
 fn main(rt: HostRuntime) -> io::Result<()> {
     let out = rt.stdout();
-    let mut text = Vec::new(rt.alloc());
-    rt.stdin().take(65537).read_to_end(&mut text)?;
-    if 65536 < text.len() {
+    let mut text = [0u8; 65537];
+    let got = lists::read_full(&mut rt.stdin(), &mut text)?;
+    if 65536 < got {
         return print(
             &out,
             b"the text has more than 65536 bytes: too long for this program\n",
         );
     }
-    report(&out, &text)
+    report(&out, &text[..got])
 }
