@@ -3,7 +3,8 @@ use mathlib.Core.Path.{◌≡◌, refl, sym, ap, ◌∙◌}
 use mathlib.Core.Bool.{Bool, true, false}
 use Prim.Native.Nat.{ℕ}
 use lib.Ieee.{Float}
-use Rattle.model.specs.Lists.{pick}
+use Rattle.model.specs.Lists.{pick, is_some}
+use Rattle.model.specs.Scene.{mesh_at}
 use Rattle.model.specs.Refusals.{lowest, Scratch, early_number}
 use Rattle.model.proofs.Numbers.{lowest-some}
 use Rattle.tables.specs.Decoded.{Lent, scene_of}
@@ -11,7 +12,7 @@ use Rattle.checks.specs.Drawn.{tables_number}
 use Rattle.worlds.specs.Rooms.{short_in}
 use Rattle.worlds.proofs.Answering.{drawn-first, short-is, by-room}
 use Rattle.byte_checks.specs.Scene.{scene_number}
-use Rattle.byte_checks.specs.Numbers.{room_in, place_in, early_in}
+use Rattle.byte_checks.specs.Numbers.{room_in, place_in, early_in, first_in}
 use Rattle.byte_checks.proofs.SceneLaws.{first-none, scene-none, room_after, bake-refused}
 
 -- the decoding room comes after the scratch room
@@ -50,3 +51,13 @@ module _ (l : Lent) (r : Scratch) (drawn : ℕ) where
     pub early-none : early_in drawn l time r ≡ 0 → tables_number l ≡ 0
     unfolding early_number
     early-none h = first-none (tables_number l) _ (first-none (early_number (tables_number l) (scene_of l) time r) drawn h)
+
+    module _ (i : ℕ) where
+      pub first-drawn : (g : ℕ) → g ≡ early_in drawn l time r → (g ≡ 0 → ⊥) → g ≡ first_in drawn l i time r
+      first-drawn g e d =
+          let n : ℕ = pick (is_some (mesh_at (scene_of l) i)) 0 7 in
+          lowest-some g n d ∙ ap (λ (k : ℕ). lowest k n) e
+
+      pub by-mesh : (b : Bool) → early_in drawn l time r ≡ 0 → is_some (mesh_at (scene_of l) i) ≡ b
+          → pick b 0 7 ≡ first_in drawn l i time r
+      by-mesh b z e = sym (λ j. lowest (z j) (pick (e j) 0 7))

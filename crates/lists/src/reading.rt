@@ -6,6 +6,7 @@ ghost use Rattle.lists.specs.Fields.{Puts};
 ghost use Rattle.lists.specs.Inputs.{next_of, is_end, Leads, FewerBy, HasFields};
 
 use crate::digits::field_in;
+use std::alloc::Global;
 use std::io;
 use std::io::Read;
 
@@ -44,6 +45,15 @@ pub fn read_full<R: Read>(input: &mut R, buf: &mut [u8]) -> io::Result<usize>
         done += n;
     }
     Ok(done)
+}
+
+// Reads up to `most` bytes, into memory of its own.
+pub fn read_bytes<R: Read + Drop>(alloc: Global, input: R, most: u64) -> io::Result<Vec<u8>>
+    ensures { IfOk result (λ bytes. IfSome (R.remaining input) (λ all. bytes.items ≡ take most all)) }
+{
+    let mut bytes = Vec::new(alloc);
+    input.take(most).read_to_end(&mut bytes)?;
+    Ok(bytes)
 }
 
 // What nine bytes of the input say, or as many as there are up to its end.
@@ -102,4 +112,22 @@ pub fn read_fields<R: Read>(input: &mut R, out: &mut [u32]) -> io::Result<Input>
         count: out.len(),
         whole,
     })
+}
+
+#[cfg(test)]
+mod tests {
+    use super::*;
+    use std::test::Fail;
+
+    #[test]
+    fn bytes_up_to_a_limit(rt: HostRuntime) -> Result<(), Fail> {
+        let text = b"0000002a zzz";
+        let none = read_bytes(rt.alloc(), &text[..], 0)?;
+        assert_eq!(rt; none.len(), 0);
+        let field = read_bytes(rt.alloc(), &text[..], 9)?;
+        assert_eq!(rt; field.as_slice(), &text[..9]);
+        let all = read_bytes(rt.alloc(), &text[..], 100)?;
+        assert_eq!(rt; all.as_slice(), &text[..]);
+        Ok(())
+    }
 }

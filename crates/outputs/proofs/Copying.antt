@@ -2,9 +2,9 @@
 use mathlib.Core.Path.{◌≡◌, refl, sym, ap, ◌∙◌}
 use mathlib.Core.List.{List, ◌++◌}
 use mathlib.Core.Bool.{Bool, true, false}
-use Prim.Native.Nat.{ℕ, zero, suc, ◌≤◌}
+use Prim.Native.Nat.{ℕ, zero, suc, ◌≤◌, ◌<◌}
 use native.Mathlib.Omega.{arith}
-use borrow.Author.Tests.{ne_eqb, ltb-true, ltb-false}
+use borrow.Author.Tests.{ne_eqb, lt-ltb, le-ltb, ltb-true, ltb-false}
 use lib.Dec.{eqb, ltb}
 use lib.Ieee.{Float}
 use lib.ListN.{length, drop}
@@ -32,12 +32,35 @@ module _ {A : Type 0} (result lent : List A) where
     slice = ap (λ (b : Bool). pick b (result ++ drop (length result) lent) lent) (sym (ne_eqb g 0 d));
   }
 
+  pub short : (g : ℕ) → g ≡ 0 → length lent < length result → CopiedOut g result lent lent 10 0
+  short g z h = record {
+    number =
+        sym
+        ((λ j. output_number (z j) (length result) (length lent))
+        ∙ (λ j. pick (lt-ltb (length lent) (length result) h j) 10 0));
+    entries = refl;
+    slice = refl;
+  }
+
   -- what stands in an output with room for all
   pub written : length result ≤ length lent → (left : List A) (n : ℕ) → Wrote result lent left n
       → (n ≡ length result) × (left ≡ result ++ drop (length result) lent)
   written h left n w =
       let all : n ≡ length result = omega (arith, h, w.counted) in
       (all, w.slice ∙ (λ j. take_all n result (omega (arith, all)) j ++ drop (all j) lent))
+
+  pub whole : (g : ℕ) → g ≡ 0 → length result ≤ length lent → (left : List A) (n : ℕ) → Wrote result lent left n
+      → CopiedOut g result lent left 0 n
+  whole g z h left n w =
+      let e = written h left n w in
+      record {
+        number =
+            sym
+            ((λ j. output_number (z j) (length result) (length lent))
+            ∙ (λ j. pick (le-ltb (length lent) (length result) h j) 10 0));
+        entries = e.0;
+        slice = e.1;
+      }
 
 -- of a number and a result that are known by definitions
 pub copied-as : {A : Type 0} (g drawn : ℕ) (part result lent left : List A) (told count : ℕ) → g ≡ drawn
@@ -55,9 +78,9 @@ module _ {E : Type 0} (number : E → ℕ) where
   count_by (Err _) = 0
 
   module _ (gives : Refusal → E → Type 0) (ten : (e : E) → gives ShortOutput e → number e ≡ 10) (result lent left : List Float) where
-    short : (told : Result ℕ E) → IsErrAnd told (gives ShortOutput) → (number_by number told ≡ 10) × (count_by told ≡ 0)
-    short (Ok n) h = absurd h
-    short (Err e) h = (ten e h, refl)
+    ten-told : (told : Result ℕ E) → IsErrAnd told (gives ShortOutput) → (number_by number told ≡ 10) × (count_by told ≡ 0)
+    ten-told (Ok n) h = absurd h
+    ten-told (Err e) h = (ten e h, refl)
 
     pub by-numbers : (drawn : Result ⊤ E) (told : Result ℕ E) → ((e : E) → drawn ≡ Err e → number e ≡ 0 → ⊥)
         → CopiedBy gives drawn result lent left told
@@ -69,9 +92,10 @@ module _ {E : Type 0} (number : E → ℕ) where
       where
         go : (b : Bool) → ltb (length lent) (length result) ≡ b → CopiedOut 0 result lent left (number_by number told) (count_by told)
         go true e =
-            let r = c.short refl (ltb-true (length lent) (length result) e) in
-            let t = short told r.0 in
-            rw (t.0, t.1, r.1) (record { number = sym (ap (λ (b : Bool). pick b 10 0) e); entries = refl; slice = refl })
+            let h = ltb-true (length lent) (length result) e in
+            let r = c.short refl h in
+            let t = ten-told told r.0 in
+            rw (t.0, t.1, r.1) (short result lent 0 refl h)
         go false e =
             let r = c.copied refl (ltb-false (length lent) (length result) e) in
             rw (r.0, r.1) (record { number = sym (ap (λ (b : Bool). pick b 10 0) e); entries = refl; slice = refl })

@@ -122,9 +122,16 @@ pub record Compares (l : Lent) (fields : List ℕ) (at : ℕ) (lent : Output) (a
 abbrev pub Padded : List Float → List Float → Type 0
 Padded xs array = array ≡ xs ++ replicate (96 - length xs) zero32
 
+-- outputs are left as long as they were lent
+pub record AsLong (lent left : Output) : Type 0 where
+  pub positions : length left.positions ≡ length lent.positions
+  pub normals : length left.normals ≡ length lent.normals
+  pub tangents : length left.tangents ≡ length lent.tangents
+
 -- the bake at a place: behind the outputs as they are lent stands what is asked
 pub record Replayed (l : Lent) (fields : List ℕ) (at : ℕ) (o : Outcome) : Type 0 where
   pub compares : Compares l fields (behind_outputs fields at) (outputs_at fields at) o.answer o.told o.floats
   pub time : o.time ≡ (asked_at fields (behind_outputs fields at)).time
+  pub as_long : AsLong (outputs_at fields at) (output_left l fields (behind_outputs fields at) (outputs_at fields at))
   pub positions : Padded (output_left l fields (behind_outputs fields at) (outputs_at fields at)).positions o.positions
   pub normals : Padded (output_left l fields (behind_outputs fields at) (outputs_at fields at)).normals o.normals

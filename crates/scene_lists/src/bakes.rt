@@ -179,3 +179,28 @@ impl Scene<'_> {
         }
     }
 }
+
+#[cfg(test)]
+mod tests {
+    use super::*;
+
+    // A scene without nodes, and three floats lent: the bake is refused, and leaves them as they were.
+    #[test]
+    fn refused_bake(rt: HostRuntime) {
+        let mut list = [0u32; 43];
+        let outputs = [2, 0x3f80_0000, 0x4000_0000, 1, 0x3f00_0000, 0];
+        list[22..28].copy_from_slice(&outputs);
+        list[32] = 7;
+        list[37..43].copy_from_slice(&outputs);
+        let mut fields = Fields::new(&list);
+        let scene = Scene::read(&mut fields, &mut [], &mut [], &mut []);
+        let o = scene.replay_bake(&mut fields);
+        assert_eq!(rt; o.answer.number, 7);
+        assert!(rt; o.told);
+        assert_eq!(rt; o.floats.equal, 3);
+        assert_eq!(rt; o.floats.differ, 0);
+        assert!(rt; fields.is_end());
+        assert_eq!(rt; &o.positions[..3], [1.0, 2.0, 0.0].as_slice());
+        assert_eq!(rt; &o.normals[..2], [0.5, 0.0].as_slice());
+    }
+}

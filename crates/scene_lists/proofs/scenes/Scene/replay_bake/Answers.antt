@@ -1,4 +1,4 @@
-use Rattle.std.proofs.Common.{◌≡◌, ap, ◌∙◌, length, take, drop, take_at, arith}
+use Rattle.std.proofs.Common.{◌≡◌, sym, ap, ◌∙◌, length, take, drop, take_at, arith}
 use Rattle.model.specs.Bake.{Output}
 use Rattle.bake.specs.Baked.{outcome, room_after}
 use Rattle.lists.specs.Fields.{ahead_of, behind_list, list_at, floats_at}
@@ -65,6 +65,17 @@ returns-clause-value c =
             ∙ (λ j. outputs_compared (own1 j) (own2 j) (own3 j) (all6 j) (at6 j) (asks j).most);
       };
       time = ap (λ (a : Asked). a.time) asks;
+      as_long = record {
+        positions =
+            sym (ap (λ (o : Output). length o.positions) left)
+            ∙ room1 ∙ p.ensures.value.counts.1 ∙ ap length positions;
+        normals =
+            sym (ap (λ (o : Output). length o.normals) left)
+            ∙ room2 ∙ n.ensures.value.counts.1 ∙ ap length normals;
+        tangents =
+            sym (ap (λ (o : Output). length o.tangents) left)
+            ∙ room3 ∙ t.ensures.value.counts.1 ∙ ap length tangents;
+      };
       positions = padded _ _ _ _ _ p.ensures.value.wrote room1 (ap (λ (o : Output). o.positions) left);
       normals = padded _ _ _ _ _ n.ensures.value.wrote room2 (ap (λ (o : Output). o.normals) left);
     }
