@@ -49,18 +49,22 @@ module _ {A : Type 0} (result lent : List A) where
       let all : n ≡ length result = omega (arith, h, w.counted) in
       (all, w.slice ∙ (λ j. take_all n result (omega (arith, all)) j ++ drop (all j) lent))
 
+  stands : (g : ℕ) → g ≡ 0 → length result ≤ length lent
+      → CopiedOut g result lent (result ++ drop (length result) lent) 0 (length result)
+  stands g z h = record {
+    number =
+        sym
+        ((λ j. output_number (z j) (length result) (length lent))
+        ∙ (λ j. pick (le-ltb (length lent) (length result) h j) 10 0));
+    entries = refl;
+    slice = refl;
+  }
+
   pub whole : (g : ℕ) → g ≡ 0 → length result ≤ length lent → (left : List A) (n : ℕ) → Wrote result lent left n
       → CopiedOut g result lent left 0 n
   whole g z h left n w =
       let e = written h left n w in
-      record {
-        number =
-            sym
-            ((λ j. output_number (z j) (length result) (length lent))
-            ∙ (λ j. pick (le-ltb (length lent) (length result) h j) 10 0));
-        entries = e.0;
-        slice = e.1;
-      }
+      rw (e.0, e.1) (stands g z h)
 
 -- of a number and a result that are known by definitions
 pub copied-as : {A : Type 0} (g drawn : ℕ) (part result lent left : List A) (told count : ℕ) → g ≡ drawn
@@ -97,8 +101,9 @@ module _ {E : Type 0} (number : E → ℕ) where
             let t = ten-told told r.0 in
             rw (t.0, t.1, r.1) (short result lent 0 refl h)
         go false e =
-            let r = c.copied refl (ltb-false (length lent) (length result) e) in
-            rw (r.0, r.1) (record { number = sym (ap (λ (b : Bool). pick b 10 0) e); entries = refl; slice = refl })
+            let h = ltb-false (length lent) (length result) e in
+            let r = c.copied refl h in
+            rw (r.0, r.1) (stands result lent 0 refl h)
 
 -- ---- by those of the table
 pub copies-out : (drawn : Result ⊤ Refusal) (told : Result ℕ Refusal) (result lent left : List Float)
